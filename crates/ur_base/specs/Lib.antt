@@ -1,0 +1,6 @@
+pub mod Counts
+pub mod formers
+pub mod Rooms
+pub mod Shape
+pub mod Stopping
+pub mod Told
