@@ -1,0 +1,5 @@
+pub mod Files
+pub mod Fronts
+pub mod Memory
+pub mod Real
+pub mod Traffic
