@@ -1,0 +1,20 @@
+//! The values that programs compute with, the atoms of cache keys, and the shape of a store.
+#![tactic(auto)]
+
+mod atom;
+mod copy;
+mod nesting;
+mod same;
+mod schema;
+mod size;
+mod text;
+mod value;
+
+pub use atom::Atom;
+pub use copy::copy_values;
+pub use same::same_values;
+pub use schema::{ColumnKind, Numbered, Schema, TableShape};
+pub use value::{Call, FieldKind, Node, Row, Tag, Value};
+
+#[cfg(test)]
+mod tests;
