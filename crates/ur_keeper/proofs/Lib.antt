@@ -1,0 +1,7 @@
+pub mod Attaching
+pub mod Calls
+pub mod Drafts
+pub mod Edits
+pub mod Keeping
+pub mod Rising
+pub mod Trials
