@@ -1,0 +1,12 @@
+use Rattle.std.proofs.Common.{◌∙◌}
+use Rattle.std.proofs.lemmas.List.{length-take-le}
+use Rattle.ur_lex.proofs.Quotes.{word_front}
+use Rattle.ur_lex.proofs.Found.{if_ok3, front_of}
+use Rattle.ur_lex.proofs.front.word.Goals as goal
+
+pub returns : goal.returns
+returns c =
+    let bytes = c.args.bytes.now in
+    let n = c.run-len.result in
+    let e = c.run-len.ensures in
+    if_ok3 c.plain.result _ _ _ _ (λ f k t l. front_of k t (l ∙ length-take-le n bytes e.within) (word_front bytes n e.within c.requires e.end e.all)) c.plain.ensures.kind c.plain.ensures.content c.plain.ensures.len

@@ -1,0 +1,4 @@
+pub mod Spelling
+pub mod Modes
+pub mod Lexing
+pub mod Scanning
