@@ -1,4 +1,5 @@
 pub mod Counts
+pub mod FaultPlans
 pub mod formers
 pub mod Rooms
 pub mod Shape

@@ -4,6 +4,7 @@
 
 mod boxed;
 mod compared;
+mod fault_plan;
 mod list;
 mod names;
 mod refusal;
@@ -13,6 +14,7 @@ mod steps;
 mod tests;
 
 pub use boxed::Boxed;
+pub use fault_plan::FaultPlan;
 pub use list::List;
 pub use names::{Name, Names};
 pub use refusal::{Bytes, Memory, Refusal, Span, Stop, Text};

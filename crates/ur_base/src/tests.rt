@@ -1,4 +1,4 @@
-use crate::{Boxed, List, Memory, Name, Names, Refusal, Room, Span, Steps, Stop};
+use crate::{Boxed, FaultPlan, List, Memory, Name, Names, Refusal, Room, Span, Steps, Stop};
 use std::alloc::Global;
 use std::cmp::Ordering;
 use std::hash::{BuildHasher, Hash};
@@ -136,5 +136,16 @@ fn a_refusal_stops_with_its_texts(rt: HostRuntime) -> Result<(), Fail> {
         }
         _ => assert!(rt; false),
     }
+    Ok(())
+}
+
+#[test]
+fn a_plan_fails_at_the_calls_it_lists(rt: HostRuntime) -> Result<(), Fail> {
+    let mut plan = FaultPlan::new(List::from_slice(rt.alloc(), &[1, 3])?);
+    assert!(rt; plan.fails());
+    plan.fail();
+    assert!(rt; !plan.fails());
+    plan.pass();
+    assert!(rt; plan.fails());
     Ok(())
 }

@@ -1,7 +1,8 @@
 -- Worked rows of the definitions.
 use Rattle.std.proofs.Common.{◌≡◌, [], ◌∷◌, Some, None, true, refl}
 use Rattle.ur_io.specs.Files.{fetched}
-use Rattle.ur_io.specs.Memory.{WireState, file_of, cut_at, piece_from, new_plan, traffic_of, after_next}
+use Rattle.ur_base.specs.FaultPlans.{new_plan}
+use Rattle.ur_io.specs.Memory.{WireState, file_of, cut_at, piece_from, traffic_of, after_next}
 use Rattle.ur_io.specs.Traffic.{onto_last}
 use Rattle.ur_io.specs.declared.shelf.Fetched.TheVariants.{Whole, Longer, Missing}
 

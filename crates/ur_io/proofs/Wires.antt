@@ -3,7 +3,8 @@ use Rattle.std.proofs.Common.{◌≡◌, ℕ, ◌+◌, ◌-◌, ◌<◌, ◌≤�
 use Rattle.std.proofs.Math.Seq.{take-add, take-append_seam}
 use Rattle.std.proofs.lemmas.Bool.Decides.{nat_tests}
 use Rattle.std.proofs.lemmas.List.{get_or-take, take-append-le, drop-drop, length-take-le, nil_from_length}
-use Rattle.ur_io.specs.Memory.{WireState, traffic_of, joined, pieces_at, last_input, next_piece, after_open, after_next, after_ok, after_take}
+use Rattle.ur_base.specs.FaultPlans.{after_ok}
+use Rattle.ur_io.specs.Memory.{WireState, traffic_of, joined, pieces_at, last_input, next_piece, after_open, after_next, after_take}
 use Rattle.ur_io.specs.Traffic.{Opens, Reads}
 use Rattle.ur_io.proofs.Inputs.{piece_is_front, none_left}
 

@@ -1,32 +1,10 @@
 -- What the forms in memory hold, all of which they tell.
 use Rattle.std.specs.Prelude.{◌≡◌, ◌<◌, ◌≤◌, ℕ, ◌+◌, ◌-◌, Bool, true, false, List, [], ◌∷◌, ◌++◌, length, map, take, drop, get_or, Some, None, Contains, if◌then◌else◌, nat_lt, bytes_eq}
 use Rattle.std.specs.List.{flat_map}
-use Rattle.ur_base.specs.Counts.{next_count}
+use Rattle.ur_base.specs.FaultPlans.{PlanState, after_ok}
 use Rattle.ur_base.specs.Rooms.{RoomOf}
 use Rattle.ur_io.specs.Files.{Files}
 use Rattle.ur_io.specs.Traffic.{Traffic, onto_last}
-
--- ---- calls that are to fail
-
--- the calls that can fail, counted from 1 over the object's life: which are to fail, how many came, and how many failed
-pub record PlanState : Type 0 where
-  pub fail : List ℕ
-  pub calls : ℕ
-  pub faults : ℕ
-
-abbrev pub new_plan : List ℕ → PlanState
-new_plan fail = record { fail = fail; calls = 0; faults = 0 }
-
--- the next call is to fail
-abbrev pub Fails : PlanState → Type 0
-Fails p = Contains p.fail (p.calls + 1)
-
--- one more call that went well, or that failed
-abbrev pub after_ok : PlanState → PlanState
-after_ok p = record p { calls = next_count p.calls }
-
-abbrev pub after_failed : PlanState → PlanState
-after_failed p = record p { calls = next_count p.calls; faults = next_count p.faults }
 
 -- ---- a shelf
 

@@ -1,7 +1,6 @@
 //! The outside in memory. Each object tells everything, and fails at the calls that it was made to fail at.
 
 mod input;
-mod plan;
 mod shelf;
 mod sink;
 mod space;

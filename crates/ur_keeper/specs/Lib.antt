@@ -1,7 +1,6 @@
 pub mod Drafts
 pub mod Keeper
 pub mod Memory
-pub mod Plans
 pub mod Sequences
 pub mod Tables
 pub mod Versions

@@ -7,7 +7,7 @@ use Rattle.ur_values.specs.contracts.schema.Schema as schemas
 use Rattle.ur_keeper.specs.declared.keeper.Attached.{Attached}
 use Rattle.ur_keeper.specs.declared.keeper.Attached.TheVariants.{Ready, Differs}
 use Rattle.ur_keeper.specs.Tables.{Tables, Kept, Empty, Keeps, AreTablesOf, AreSound, MayCommit, empty_tables}
-use Rattle.ur_keeper.specs.Plans.{PlanState, new_plan, after_ok, after_failed, plan_coded}
+use Rattle.ur_base.specs.FaultPlans.{PlanState, new_plan, after_ok, after_failed, plan_coded}
 use Rattle.ur_keeper.specs.Versions.{Both, tables_coded}
 
 pub record Memory : Type 0 where

@@ -6,7 +6,6 @@ mod draft;
 mod held;
 mod keeper;
 mod memory;
-mod plan;
 mod sequence;
 mod table;
 

@@ -2,16 +2,15 @@
 ghost use Rattle.std.specs.Prelude.{◌≡◌, ◌≤◌, ◌↔◌, ◌⊎◌, refl, true, false, Some, IfOk, OnOk, OnErr, IsErrOf, IsTrue, IsFalse};
 ghost use Rattle.ur_keeper.specs.Tables.{inserted, replaced, removed, drawn, table_at, sequence_at, HasNextNumber, HasNextDraw, HasRowAt, MayCommit, AreRowsOf, AreSound, empty_tables};
 ghost use Rattle.ur_keeper.specs.Keeper.{HasTable, HasSequence, OfShape, OfSchema, IsRowOf, IsReadyOnly};
-ghost use Rattle.ur_keeper.specs.Plans.{Fails};
+ghost use Rattle.ur_base.specs.FaultPlans.{Fails};
 ghost use Rattle.ur_keeper.specs.Memory.{empty_memory, current_of, kept_of, passed, begun, read, changed, committed, given_up, failed, wanting, attached, AnswersTo, IsFaulty};
 ghost use Rattle.ur_base.specs.Counts.{HasCause};
 
 use crate::held::Held;
 use crate::keeper::{Attached, Keeper, KeeperEnd};
-use crate::plan::Plan;
 use std::alloc::Global;
 use std::marker::Model;
-use ur_base::{List, Memory};
+use ur_base::{FaultPlan, List, Memory};
 use ur_values::{Numbered, Row, Schema};
 
 /// Tables in memory. The calls that can fail are counted from 1, and those whose number is listed fail.
@@ -22,7 +21,7 @@ pub struct MemoryKeeper {
     held: Held,
     under_way: bool,
     reads: u64,
-    plan: Plan,
+    plan: FaultPlan,
 }
 
 impl Model for MemoryKeeper {
@@ -55,7 +54,7 @@ impl MemoryKeeper {
             held: Held::new(alloc),
             under_way: false,
             reads: 0,
-            plan: Plan::new(fail),
+            plan: FaultPlan::new(fail),
         }
     }
 

@@ -4,20 +4,20 @@ ghost use Rattle.std.specs.Option.{option_copied};
 ghost use Rattle.ur_base.specs.Counts.{HasCause};
 ghost use Rattle.ur_base.specs.Told.{WhereTold};
 ghost use Rattle.ur_io.specs.Files.{fetched, IsWithin};
-ghost use Rattle.ur_io.specs.Memory.{new_plan, Fails, after_ok, after_failed, file_of};
+ghost use Rattle.ur_base.specs.FaultPlans.{new_plan, Fails, after_ok, after_failed};
+ghost use Rattle.ur_io.specs.Memory.{file_of};
 
-use super::plan::Plan;
 use crate::{FetchEnd, Fetched, Shelf};
 use std::alloc::Global;
 use std::marker::Model;
-use ur_base::{Bytes, List, Text};
+use ur_base::{Bytes, FaultPlan, List, Text};
 
 /// Files in memory.
 #[derive(Debug, Drop)]
 pub struct MemoryShelf {
     alloc: Global,
     files: List<(Text, Bytes)>,
-    plan: Plan,
+    plan: FaultPlan,
 }
 
 impl Model for MemoryShelf {
@@ -36,7 +36,7 @@ impl MemoryShelf {
         MemoryShelf {
             alloc,
             files,
-            plan: Plan::new(fail),
+            plan: FaultPlan::new(fail),
         }
     }
 }

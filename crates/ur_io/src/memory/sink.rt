@@ -1,20 +1,20 @@
 //! A place for reports in memory.
 ghost use Rattle.std.specs.Prelude.{◌≡◌, ◌≤◌, ◌<◌, ◌↔◌, ◌⊎◌, ℕ, ◌++◌, [], List, Option, Some, IfOk, OnErr, IsErr, length, take, min};
 ghost use Rattle.ur_base.specs.Counts.{CountsFaults};
-ghost use Rattle.ur_io.specs.Memory.{new_plan, Fails, IsFull, after_failed, after_print};
+ghost use Rattle.ur_base.specs.FaultPlans.{new_plan, Fails, after_failed};
+ghost use Rattle.ur_io.specs.Memory.{IsFull, after_print};
 
-use super::plan::Plan;
 use super::space::Space;
 use crate::{Failed, Sink};
 use std::alloc::Global;
 use std::marker::Model;
-use ur_base::{List, Memory};
+use ur_base::{FaultPlan, List, Memory};
 
 /// A place for reports in memory, with room for so many bytes.
 #[derive(Debug, Drop)]
 pub struct MemorySink {
     space: Space,
-    plan: Plan,
+    plan: FaultPlan,
 }
 
 impl Model for MemorySink {
@@ -32,7 +32,7 @@ impl MemorySink {
     {
         Ok(MemorySink {
             space: Space::new(alloc, room)?,
-            plan: Plan::new(fail),
+            plan: FaultPlan::new(fail),
         })
     }
 

@@ -2,15 +2,15 @@
 ghost use Rattle.std.specs.Prelude.{◌≡◌, ◌≤◌, ◌<◌, ◌↔◌, ◌⊎◌, ◌++◌, ℕ, Bool, true, false, [], Option, Some, IfOk, OnErr, IsErr, MatchResult, length, take, drop, min, slice_get};
 ghost use Rattle.ur_base.specs.Counts.{CountsFaults};
 ghost use Rattle.ur_io.specs.Traffic.{Opens, Reads, after_write};
-ghost use Rattle.ur_io.specs.Memory.{new_plan, Fails, IsFull, after_failed, traffic_of, cut_at, Rises, comes, after_next, next_piece, after_take, after_give};
+ghost use Rattle.ur_base.specs.FaultPlans.{new_plan, Fails, after_failed};
+ghost use Rattle.ur_io.specs.Memory.{IsFull, traffic_of, cut_at, Rises, comes, after_next, next_piece, after_take, after_give};
 
 use super::input;
-use super::plan::Plan;
 use super::space::Space;
 use crate::{Failed, Wire};
 use std::alloc::Global;
 use std::marker::Model;
-use ur_base::{Bytes, List, Memory, Room};
+use ur_base::{Bytes, FaultPlan, List, Memory, Room};
 
 /// Connections in memory, each with its input in pieces, with room for so many bytes to be given in all.
 #[derive(Debug, Drop)]
@@ -22,7 +22,7 @@ pub struct MemoryWire {
     current: bool,
     starts: Room<usize>,
     space: Space,
-    plan: Plan,
+    plan: FaultPlan,
 }
 
 impl Model for MemoryWire {
@@ -70,7 +70,7 @@ impl MemoryWire {
             current: false,
             starts,
             space: Space::new(alloc, room)?,
-            plan: Plan::new(fail),
+            plan: FaultPlan::new(fail),
         })
     }
 
