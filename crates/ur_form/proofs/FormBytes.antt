@@ -5,8 +5,8 @@ use Rattle.std.proofs.lemmas.List.{drop-drop}
 use Rattle.std.proofs.lemmas.List.{take_rest}
 use Rattle.std.proofs.lemmas.Slice.Eq.{starts_is}
 use Rattle.std.proofs.lemmas.Bool.Decides.{Decides-eqb}
-use Rattle.ur_syntax.specs.Words.{drop_while}
-use Rattle.ur_syntax.specs.Spelling.{Longest}
+use Rattle.ur_page.specs.Words.{drop_while}
+use Rattle.ur_page.specs.Spelling.{Longest}
 
 drop_while_step : (test : ℕ → Bool) (x : ℕ) (xs : List ℕ) → drop_while test xs ≡ drop (prefix_len test xs) xs
     → (b : Bool) → test x ≡ b → drop_while test (x ∷ xs) ≡ drop (prefix_len test (x ∷ xs)) (x ∷ xs)

@@ -1,12 +1,12 @@
 -- Functions by their pieces, and lists of them.
 use Rattle.std.proofs.Common.{◌≡◌, ℕ, ◌<◌, ◌≤◌, Bool, true, false, List, [], ◌∷◌, ◌++◌, length, codes, drop, map, sym, subst, ap, ◌∙◌, arith, length-drop}
 use Rattle.std.proofs.Math.ListN.{drop_of_length-le}
-use Rattle.ur_syntax.specs.declared.module.Function.{Function}
-use Rattle.ur_syntax.specs.declared.module.Page.{Page}
-use Rattle.ur_syntax.specs.declared.module.Module.{Module}
-use Rattle.ur_syntax.specs.Words.{is_blank, is_name, are_distinct}
-use Rattle.ur_syntax.specs.Spelling.{past_gap, Sign, Word, Longest, SpellsParams, SpellsResult, SpellsPage, SpellsFunction, SpellsFunctions, SpellsModule}
-use Rattle.ur_syntax.proofs.Once.{Same, params_once, result_once, page_once, function_once, functions_once, no_function}
+use Rattle.ur_page.specs.declared.module.Function.{Function}
+use Rattle.ur_page.specs.declared.module.Page.{Page}
+use Rattle.ur_page.specs.declared.module.Module.{Module}
+use Rattle.ur_page.specs.Words.{is_blank, is_name, are_distinct}
+use Rattle.ur_page.specs.Spelling.{past_gap, Sign, Word, Longest, SpellsParams, SpellsResult, SpellsPage, SpellsFunction, SpellsFunctions, SpellsModule}
+use Rattle.ur_page.proofs.Once.{Same, params_once, result_once, page_once, function_once, functions_once, no_function}
 use Rattle.ur_form.proofs.FormRead.{Read, one_more}
 
 -- the name of a function is the one that was read

@@ -4,7 +4,7 @@ use Rattle.std.specs.List.{list_any}
 use Rattle.std.proofs.Math.Seq.{drop-cons}
 use Rattle.std.proofs.lemmas.List.{take_rest}
 use Rattle.ur_base.proofs.Texts.{list_any-texts}
-use Rattle.ur_syntax.specs.Words.{is_one_of, are_distinct}
+use Rattle.ur_page.specs.Words.{is_one_of, are_distinct}
 
 -- the elements from a place on are that at the place and those behind it
 split : {X : Type 0} (xs : List X) (i : ℕ) (x : X) → i < length xs → x ≡ get_or xs i x → drop i xs ≡ x ∷ drop (i + 1) xs

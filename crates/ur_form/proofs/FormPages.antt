@@ -1,10 +1,10 @@
 -- Titles, heads and pages by their pieces.
 use Rattle.std.proofs.Common.{◌≡◌, ℕ, Bool, true, false, List, ◌++◌, codes, sym, subst, ap, ◌∙◌, Some, None}
-use Rattle.ur_syntax.specs.declared.module.Part.{Part}
-use Rattle.ur_syntax.specs.declared.module.Page.{Page}
-use Rattle.ur_syntax.specs.Words.{is_text_byte}
-use Rattle.ur_syntax.specs.Spelling.{past_gap, Sign, Longest, Opens, Single, Closes, SpellsTitle, SpellsHead, SpellsBody, SpellsPage}
-use Rattle.ur_syntax.proofs.Once.{opens_once, opens_not_single, longest_once, title_once, head_once, no_head}
+use Rattle.ur_page.specs.declared.module.Part.{Part}
+use Rattle.ur_page.specs.declared.module.Page.{Page}
+use Rattle.ur_page.specs.Words.{is_text_byte}
+use Rattle.ur_page.specs.Spelling.{past_gap, Sign, Longest, Opens, Single, Closes, SpellsTitle, SpellsHead, SpellsBody, SpellsPage}
+use Rattle.ur_page.proofs.Once.{opens_once, opens_not_single, longest_once, title_once, head_once, no_head}
 use Rattle.ur_form.specs.Form.{IsTag}
 
 -- ---- titles

@@ -1,8 +1,8 @@
 -- Parameters by their pieces, and lists of them.
 use Rattle.std.proofs.Common.{◌≡◌, ℕ, true, List, [], ◌∷◌, ◌++◌, codes, drop, sym, subst, arith}
-use Rattle.ur_syntax.specs.Words.{is_name}
-use Rattle.ur_syntax.specs.Spelling.{Sign, Word, SpellsParam, SpellsParams}
-use Rattle.ur_syntax.proofs.Once.{signs_apart, param_once}
+use Rattle.ur_page.specs.Words.{is_name}
+use Rattle.ur_page.specs.Spelling.{Sign, Word, SpellsParam, SpellsParams}
+use Rattle.ur_page.proofs.Once.{signs_apart, param_once}
 use Rattle.ur_form.proofs.FormRead.{Read, one_more}
 
 pub no_param_name : {b a : List ℕ} → Sign (codes "(") b a → ((name rest : List ℕ) → Word name a rest → is_name name ≡ true → ⊥)

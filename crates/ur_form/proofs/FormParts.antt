@@ -1,9 +1,9 @@
 -- Parts that are read one after the other.
 use Rattle.std.proofs.Common.{◌≡◌, ℕ, ◌<◌, ◌-◌, Bool, true, false, List, [], ◌∷◌, ◌++◌, codes, drop, refl, sym, subst, ap, ◌∙◌, arith}
-use Rattle.ur_syntax.specs.declared.module.Part.{Part}
-use Rattle.ur_syntax.specs.Words.{is_one_of, is_tag_byte, body_tags}
-use Rattle.ur_syntax.specs.Spelling.{Longest, Opens, Closes, SpellsRun, SpellsShow, SpellsPart, SpellsElement, SpellsParts}
-use Rattle.ur_syntax.proofs.Once.{signs_apart, no_run, no_part, element_first, part_once, parts_once, opens_once, opens_not_single, tags_once}
+use Rattle.ur_page.specs.declared.module.Part.{Part}
+use Rattle.ur_page.specs.Words.{is_one_of, is_tag_byte, body_tags}
+use Rattle.ur_page.specs.Spelling.{Longest, Opens, Closes, SpellsRun, SpellsShow, SpellsPart, SpellsElement, SpellsParts}
+use Rattle.ur_page.proofs.Once.{signs_apart, no_run, no_part, element_first, part_once, parts_once, opens_once, opens_not_single, tags_once}
 use Rattle.ur_form.specs.Form.{IsTag}
 use Rattle.ur_form.proofs.FormRead.{Read, one_more, all_read}
 

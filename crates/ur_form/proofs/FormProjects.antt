@@ -1,9 +1,9 @@
 -- What project files do not spell.
 use Rattle.std.proofs.Common.{◌≡◌, ◌∙◌, ◌⊎◌, ◌-◌, ℕ, Bool, true, false, List, [], ◌∷◌, length, take, drop, sym, subst, ap}
 use Rattle.std.proofs.lemmas.List.{take_rest}
-use Rattle.ur_syntax.specs.Words.{is_name_byte, is_module_name}
-use Rattle.ur_syntax.specs.Spelling.{Longest, SpellsProject}
-use Rattle.ur_syntax.proofs.Once.{project_front, project_rest}
+use Rattle.ur_page.specs.Words.{is_name_byte, is_module_name}
+use Rattle.ur_page.specs.Spelling.{Longest, SpellsProject}
+use Rattle.ur_page.proofs.Once.{project_front, project_rest}
 
 pub no_name : (bytes : List ℕ) {front rest : List ℕ} → Longest is_name_byte front bytes rest → is_module_name front ≡ false → (n : List ℕ) → SpellsProject n bytes → ⊥
 no_name bytes l h n p = let z : ◌≡◌ {A = Bool} false true = sym h ∙ ap is_module_name (sym l.is ∙ project_front n bytes p) ∙ p.0 in cc

@@ -1,8 +1,8 @@
 -- Tags by their pieces.
 use Rattle.std.proofs.Common.{◌≡◌, ℕ, Bool, true, false, List, ◌++◌, codes, sym, subst}
-use Rattle.ur_syntax.specs.Words.{is_tag_byte}
-use Rattle.ur_syntax.specs.Spelling.{Longest, Opens, Single}
-use Rattle.ur_syntax.proofs.Once.{tags_once}
+use Rattle.ur_page.specs.Words.{is_tag_byte}
+use Rattle.ur_page.specs.Spelling.{Longest, Opens, Single}
+use Rattle.ur_page.proofs.Once.{tags_once}
 use Rattle.ur_form.specs.Form.{Ends, IsTag}
 
 -- a tag is `<`, its word and its end

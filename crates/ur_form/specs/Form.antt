@@ -1,7 +1,7 @@
 -- What the readers of the form answer.
 use Rattle.std.specs.Prelude.{ℕ, ◌≤◌, Bool, true, false, codes, List, length, Result, Ok, Err}
-use Rattle.ur_syntax.specs.Words.{is_blank, is_name_byte, is_tag_byte, is_text_byte}
-use Rattle.ur_syntax.specs.Spelling.{Sign, Opens, Single}
+use Rattle.ur_page.specs.Words.{is_blank, is_name_byte, is_tag_byte, is_text_byte}
+use Rattle.ur_page.specs.Spelling.{Sign, Opens, Single}
 use Rattle.ur_form.specs.declared.bytes.Class.{Class}
 use Rattle.ur_form.specs.declared.bytes.Class.TheVariants.{Blank, Name, Tag, Text}
 use Rattle.ur_form.specs.declared.miss.Miss.{Miss}

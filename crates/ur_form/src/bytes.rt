@@ -1,7 +1,7 @@
 //! Classes of bytes, and how far they go on.
 ghost use Rattle.std.specs.Prelude.{◌≡◌, ◌≤◌, ◌+◌, ◌++◌, ℕ, List, length, drop, slice_range, IsTrue, false};
-ghost use Rattle.ur_syntax.specs.Words.{is_blank, is_name_byte, is_small, is_tag_byte, is_text_byte};
-ghost use Rattle.ur_syntax.specs.Spelling.{Longest};
+ghost use Rattle.ur_page.specs.Words.{is_blank, is_name_byte, is_small, is_tag_byte, is_text_byte};
+ghost use Rattle.ur_page.specs.Spelling.{Longest};
 ghost use Rattle.ur_form.specs.Form.{in_class, Goes};
 
 /// A class of bytes.

@@ -1,7 +1,7 @@
 //! Functions.
 ghost use Rattle.std.specs.Prelude.{ℕ, ◌≤◌, ◌<◌, List, length, drop, IfOk, OnErr};
-ghost use Rattle.ur_syntax.specs.declared.module.Function.{Function};
-ghost use Rattle.ur_syntax.specs.Spelling.{SpellsResult, SpellsFunction};
+ghost use Rattle.ur_page.specs.declared.module.Function.{Function};
+ghost use Rattle.ur_page.specs.Spelling.{SpellsResult, SpellsFunction};
 ghost use Rattle.ur_form.specs.Form.{Goes, IfOther};
 
 use crate::list::are_distinct;
@@ -11,7 +11,7 @@ use crate::params::params;
 use crate::token::{name, sign, word};
 use std::alloc::Global;
 use ur_base::Text;
-use ur_syntax::Function;
+use ur_page::Function;
 
 /// The place behind `transaction page = return <xml>`.
 fn result_type(bytes: &[u8], at: usize) -> Result<usize, Other>

@@ -1,11 +1,11 @@
 //! Lists of names.
 ghost use Rattle.std.specs.Prelude.{◌≡◌, map, bytes_eq};
 ghost use Rattle.std.specs.List.{list_any};
-ghost use Rattle.ur_syntax.specs.Words.{is_one_of, are_distinct};
+ghost use Rattle.ur_page.specs.Words.{is_one_of, are_distinct};
 
 use crate::word::same;
 use ur_base::Text;
-use ur_syntax::Function;
+use ur_page::Function;
 
 /// Whether the word is among the names.
 pub fn is_one_of(names: &[Text], word: &[u8]) -> bool

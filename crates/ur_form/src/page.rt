@@ -1,7 +1,7 @@
 //! Pages.
 ghost use Rattle.std.specs.Prelude.{ℕ, ◌≤◌, List, length, drop, IfOk};
-ghost use Rattle.ur_syntax.specs.declared.module.Page.{Page};
-ghost use Rattle.ur_syntax.specs.Spelling.{SpellsTitle, SpellsHead, SpellsPage};
+ghost use Rattle.ur_page.specs.declared.module.Page.{Page};
+ghost use Rattle.ur_page.specs.Spelling.{SpellsTitle, SpellsHead, SpellsPage};
 ghost use Rattle.ur_form.specs.Form.{Goes, IfOther};
 
 use crate::bytes::{Class, past, sees};
@@ -11,7 +11,7 @@ use crate::tag::{closes, tag};
 use crate::token::sign;
 use std::alloc::Global;
 use ur_base::Text;
-use ur_syntax::Page;
+use ur_page::Page;
 
 /// How many elements may stand within one another inside a function's own expression.
 const LEFT: usize = 255;

@@ -1,6 +1,6 @@
 //! The parameters of a function.
 ghost use Rattle.std.specs.Prelude.{ℕ, ◌≤◌, ◌<◌, List, length, drop, slice_range, IfOk, OnErr};
-ghost use Rattle.ur_syntax.specs.Spelling.{SpellsParam, SpellsParams};
+ghost use Rattle.ur_page.specs.Spelling.{SpellsParam, SpellsParams};
 ghost use Rattle.ur_form.specs.Form.{Goes, IfOther};
 
 use crate::miss::{Miss, Other};

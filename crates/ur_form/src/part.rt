@@ -1,7 +1,7 @@
 //! The parts of a body.
 ghost use Rattle.std.specs.Prelude.{ℕ, ◌≡◌, ◌≤◌, ◌<◌, ◌++◌, codes, List, length, drop, slice_range, IfOk, OnErr};
-ghost use Rattle.ur_syntax.specs.declared.module.Part.{Part};
-ghost use Rattle.ur_syntax.specs.Spelling.{SpellsRun, SpellsShow, SpellsPart, SpellsElement, SpellsParts};
+ghost use Rattle.ur_page.specs.declared.module.Part.{Part};
+ghost use Rattle.ur_page.specs.Spelling.{SpellsRun, SpellsShow, SpellsPart, SpellsElement, SpellsParts};
 ghost use Rattle.ur_form.specs.Form.{Goes, IfOther};
 
 use crate::bytes::{Class, past, sees};
@@ -12,7 +12,7 @@ use crate::token::{longest, sign};
 use crate::word::{is_body_tag, is_form_word};
 use std::alloc::Global;
 use ur_base::{List, Text};
-use ur_syntax::Part;
+use ur_page::Part;
 
 /// Where the name of the parameter that is shown begins and ends, and the place behind the `}`.
 fn show(bytes: &[u8], at: usize, params: &[Text]) -> Result<((usize, usize), usize), Other>

@@ -1,6 +1,6 @@
 //! Project files.
 ghost use Rattle.std.specs.Prelude.{◌≡◌, ◌⊎◌, ◌∷◌, [], ℕ, List, IsTrue, ◌↔◌, IfOk, MatchOption};
-ghost use Rattle.ur_syntax.specs.Spelling.{SpellsProject};
+ghost use Rattle.ur_page.specs.Spelling.{SpellsProject};
 
 use crate::bytes::{Class, past};
 use crate::word::{is_module_name, same};

@@ -1,7 +1,7 @@
 //! Tags.
 ghost use Rattle.std.specs.Prelude.{◌≡◌, ◌≤◌, ◌<◌, ◌++◌, ℕ, Bool, List, length, drop, slice_range, codes, IfOk, OnErr};
-ghost use Rattle.ur_syntax.specs.Words.{is_tag_byte};
-ghost use Rattle.ur_syntax.specs.Spelling.{Longest, Closes};
+ghost use Rattle.ur_page.specs.Words.{is_tag_byte};
+ghost use Rattle.ur_page.specs.Spelling.{Longest, Closes};
 ghost use Rattle.ur_form.specs.Form.{Goes, Ends, IsTag};
 
 use crate::bytes::{Class, past, sees};

@@ -3,7 +3,7 @@
 use crate::{parse_module, parse_project};
 use std::alloc::Global;
 use ur_base::{List, Memory, Text};
-use ur_syntax::{Function, Part};
+use ur_page::{Function, Part};
 
 /// The parts in short: text between quotes, `$` before a parameter, a tag before what it holds in parentheses.
 fn show_parts(out: &mut Text, parts: &List<Part>) -> Result<(), Memory> {

@@ -1,7 +1,7 @@
 //! Symbols and words behind a gap.
 ghost use Rattle.std.specs.Prelude.{◌≡◌, ◌≤◌, ◌<◌, ◌+◌, ℕ, true, List, length, drop, slice_range, IfOk, OnErr};
-ghost use Rattle.ur_syntax.specs.Words.{is_name};
-ghost use Rattle.ur_syntax.specs.Spelling.{Sign, Word};
+ghost use Rattle.ur_page.specs.Words.{is_name};
+ghost use Rattle.ur_page.specs.Spelling.{Sign, Word};
 ghost use Rattle.ur_form.specs.Form.{Goes};
 
 use crate::bytes::{Class, past, sees};

@@ -1,8 +1,8 @@
 //! Whole modules.
 ghost use Rattle.std.specs.Prelude.{◌≡◌, ℕ, List, IfOk, MatchOption};
-ghost use Rattle.ur_syntax.specs.declared.module.Function.{Function};
-ghost use Rattle.ur_syntax.specs.declared.module.Module.{Module};
-ghost use Rattle.ur_syntax.specs.Spelling.{SpellsFunctions, SpellsModule};
+ghost use Rattle.ur_page.specs.declared.module.Function.{Function};
+ghost use Rattle.ur_page.specs.declared.module.Module.{Module};
+ghost use Rattle.ur_page.specs.Spelling.{SpellsFunctions, SpellsModule};
 ghost use Rattle.ur_form.specs.Form.{IfOther};
 
 use crate::bytes::{Class, past};
@@ -11,7 +11,7 @@ use crate::list::have_distinct_names;
 use crate::miss::Miss;
 use std::alloc::Global;
 use ur_base::{List, Memory};
-use ur_syntax::{Function, Module};
+use ur_page::{Function, Module};
 
 /// The functions of which the bytes are made.
 fn functions(alloc: Global, bytes: &[u8]) -> Result<List<Function>, Miss>

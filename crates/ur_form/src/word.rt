@@ -1,7 +1,7 @@
 //! What a word is.
 ghost use Rattle.std.specs.Prelude.{bytes_eq, ◌≡◌, ◌↔◌, ◌||◌, ◌∷◌, [], codes, IsTrue};
 ghost use Rattle.std.specs.List.{list_all};
-ghost use Rattle.ur_syntax.specs.Words.{is_name, is_module_name, is_name_byte, keywords, form_words, body_tags, is_one_of};
+ghost use Rattle.ur_page.specs.Words.{is_name, is_module_name, is_name_byte, keywords, form_words, body_tags, is_one_of};
 
 use crate::bytes::{is_name_byte, is_small};
 

@@ -1,7 +1,7 @@
 -- Which call a name and texts of arguments make.
 use Rattle.std.proofs.Common.{◌≡◌, ◌<◌, ℕ, ℤ, true, ◌&&◌, ◌==◌, List, ◌∷◌, Some, None, Option, cond, drop, length, get_or, bytes_eq, option_map, ap, sym, ◌∙◌, ◌+◌}
 use Rattle.std.proofs.lemmas.List.{at_drop_more}
-use Rattle.ur_syntax.specs.declared.module.Function.{Function}
+use Rattle.ur_page.specs.declared.module.Function.{Function}
 use Rattle.ur_top.specs.Calls.{Call, call_of, ints_of}
 
 -- the first function that is left takes the texts

@@ -1,8 +1,8 @@
 -- The program hello, and what is answered to its requests.
 use Rattle.std.proofs.Common.{◌≡◌, ℕ, pos, negsuc, ◌-◌, ◌^◌, true, false, List, [], ◌∷◌, ◌++◌, length, Some, None, codes, refl}
 use Rattle.std.specs.Fmt.{digits}
-use Rattle.ur_syntax.specs.declared.module.Function.{Function}
-use Rattle.ur_syntax.specs.declared.module.Part.{Text, Element', Show, more_of-Part, end_of-Part}
+use Rattle.ur_page.specs.declared.module.Function.{Function}
+use Rattle.ur_page.specs.declared.module.Part.{Text, Element', Show, more_of-Part, end_of-Part}
 use Rattle.ur_top.specs.declared.program.Program.{Program}
 use Rattle.ur_top.specs.Bytes.{crlf, int_of}
 use Rattle.ur_top.specs.Calls.{route, path}

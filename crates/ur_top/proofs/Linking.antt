@@ -12,7 +12,7 @@ use Rattle.std.proofs.lemmas.Bool.{false≢true}
 use Rattle.std.proofs.lemmas.Bool.Decides.{nat_tests}
 use Rattle.std.proofs.lemmas.Slice.Eq.{bytes_eq-Decides}
 use lib.Signed.{mag}
-use Rattle.ur_syntax.specs.declared.module.Function.{Function}
+use Rattle.ur_page.specs.declared.module.Function.{Function}
 use Rattle.ur_top.specs.Bytes.{is_int, int_of, split}
 use Rattle.ur_top.specs.Calls.{Call, path, route, route_segments, call_of, ints_of}
 use Rattle.ur_top.specs.Links.{HasNoSlash, HasPlainNames, IsCallOf}

@@ -6,9 +6,9 @@ use Rattle.ur_base.specs.declared.refusal.Refusal.{Refusal}
 use Rattle.ur_io.specs.Files.{Files, fetched}
 use Rattle.ur_io.specs.declared.shelf.Fetched.{Fetched}
 use Rattle.ur_io.specs.declared.shelf.Fetched.TheVariants.{Whole, Longer, Missing}
-use Rattle.ur_syntax.proofs.Once.{module_once, project_once}
-use Rattle.ur_syntax.specs.declared.module.Module.{Module}
-use Rattle.ur_syntax.specs.Spelling.{SpellsProject, SpellsModule}
+use Rattle.ur_page.proofs.Once.{module_once, project_once}
+use Rattle.ur_page.specs.declared.module.Module.{Module}
+use Rattle.ur_page.specs.Spelling.{SpellsProject, SpellsModule}
 use Rattle.ur_top.specs.Accepts.{Accepts, HasFile, HasTree, NamesModule, IsFile, IsNotBuilt, IsRefused, Lacks, Refuses, file_limit}
 use Rattle.ur_top.specs.Loads.{IfRefused, IsMissing, IsOtherForm}
 use Rattle.ur_top.specs.Projects.{project_file, module_file, module_name}

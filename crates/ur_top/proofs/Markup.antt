@@ -3,7 +3,7 @@ use Rattle.std.proofs.Common.{◌≡◌, ◌<◌, ◌+◌, ℕ, ℤ, List, [], �
 use Rattle.std.proofs.lemmas.List.{at_drop_more}
 use mathlib.Core.Former.{Count}
 use mathlib.Core.List.{append_assoc}
-use Rattle.ur_syntax.specs.declared.module.Part.{Part, Text, Show, Element, Element', Row_of-Part, end_of-Part, more_of-Part, items-the_row-Part, items_hidden-the_row-Part-0}
+use Rattle.ur_page.specs.declared.module.Part.{Part, Text, Show, Element, Element', Row_of-Part, end_of-Part, more_of-Part, items-the_row-Part, items_hidden-the_row-Part-0}
 use Rattle.ur_top.specs.Html.{Html, nothing, element, show, tagged}
 use Rattle.ur_top.specs.Program.{part_markup, row_markup, markup}
 

@@ -5,8 +5,8 @@ use Rattle.std.proofs.lemmas.Str.{IsUtf8-from_ascii}
 use Rattle.std.proofs.lemmas.Str.Ascii.{IsAscii-nil, IsAscii-cons}
 use Rattle.std.specs.List.{list_all}
 use Rattle.std.specs.Str.{IsAscii, IsUtf8}
-use Rattle.ur_syntax.proofs.Once.{module_bytes}
-use Rattle.ur_syntax.specs.Words.{is_name_byte, is_module_name}
+use Rattle.ur_page.proofs.Once.{module_bytes}
+use Rattle.ur_page.specs.Words.{is_name_byte, is_module_name}
 
 and_true : (a b : Bool) → a && b ≡ true → (a ≡ true) × (b ≡ true)
 and_true true b h = (refl, h)

@@ -3,8 +3,8 @@ use Rattle.std.specs.Prelude.{◌≡◌, ◌⊎◌, ℕ, ◌≤◌, List, [], le
 use Rattle.ur_base.specs.declared.refusal.Refusal.{Refusal}
 use Rattle.ur_base.specs.declared.refusal.Span.{Span}
 use Rattle.ur_io.specs.Files.{Files}
-use Rattle.ur_syntax.specs.declared.module.Module.{Module}
-use Rattle.ur_syntax.specs.Spelling.{SpellsProject, SpellsModule}
+use Rattle.ur_page.specs.declared.module.Module.{Module}
+use Rattle.ur_page.specs.Spelling.{SpellsProject, SpellsModule}
 use Rattle.ur_top.specs.Projects.{project_file, module_file, module_name}
 use Rattle.ur_top.specs.declared.program.Program.{Program}
 

@@ -1,6 +1,6 @@
 -- A call as the code names it.
 use Rattle.std.specs.Prelude.{◌≡◌, List, Option, Some, None, slice_get}
-use Rattle.ur_syntax.specs.declared.module.Function.{Function}
+use Rattle.ur_page.specs.declared.module.Function.{Function}
 use Rattle.ur_top.specs.Calls.{Call}
 use Rattle.ur_top.specs.declared.routes.Routed.{Routed}
 

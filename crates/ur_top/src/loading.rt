@@ -2,7 +2,7 @@
 ghost use Rattle.std.specs.Prelude.{◌≡◌, ◌≤◌, IfOk, IsTrue, string_bytes};
 ghost use Rattle.ur_base.specs.Counts.{Rose};
 ghost use Rattle.ur_base.specs.Told.{WhereTold};
-ghost use Rattle.ur_syntax.specs.Words.{is_module_name};
+ghost use Rattle.ur_page.specs.Words.{is_module_name};
 ghost use Rattle.ur_top.specs.Accepts.{Accepts, NamesModule, HasTree, IsRefused};
 ghost use Rattle.ur_top.specs.Loads.{IfRefused, OnShelf, IsMissing, IsOtherForm};
 ghost use Rattle.ur_top.specs.Projects.{module_file as file_of_module};
@@ -14,7 +14,7 @@ use std::str;
 use ur_base::{List, Memory, Refusal, Span, Text};
 use ur_form::{parse_module, parse_project};
 use ur_io::{FetchEnd, Fetched, Shelf};
-use ur_syntax::Module;
+use ur_page::Module;
 
 /// Why a program was not loaded: it is refused in one of its files, the shelf failed, or memory is wanting.
 #[derive(Debug, Drop)]

@@ -7,7 +7,7 @@ ghost use Rattle.ur_top.specs.Program.{argument, body_of, markup, part_markup};
 use std::alloc::Global;
 use std::slice;
 use ur_base::{Bytes, List, Memory, Text};
-use ur_syntax::{Function, Part};
+use ur_page::{Function, Part};
 
 /// The bytes of the page that a call of the function gives. A parameter without an argument is 0.
 pub fn page(alloc: Global, function: &Function, args: &[i64]) -> Result<Bytes, Memory>

@@ -1,5 +1,5 @@
 use ur_base::{List, Text};
-use ur_syntax::Function;
+use ur_page::Function;
 
 /// A module by its name in programs. Each of its functions answers GET.
 #[derive(Debug, Drop)]

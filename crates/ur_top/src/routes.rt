@@ -9,7 +9,7 @@ use crate::Program;
 use std::alloc::Global;
 use std::str;
 use ur_base::{List, Memory};
-use ur_syntax::Function;
+use ur_page::Function;
 
 /// A call that a path names: the index of its function in the program, and its arguments.
 #[derive(Debug, Drop)]

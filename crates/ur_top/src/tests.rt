@@ -9,7 +9,7 @@ use crate::routes::{Routed, route};
 use std::alloc::Global;
 use std::test::Fail;
 use ur_base::{List, Memory, Refusal, Span, Text};
-use ur_syntax::{Function, Page, Part};
+use ur_page::{Function, Page, Part};
 
 const HELLO_REQUEST: &[u8] = b"GET /Hello/main/3 HTTP/1.1\r\nHost: localhost\r\n\r\n";
 

@@ -1,5 +1,5 @@
 use Rattle.std.proofs.Common.{◌∙◌, sym, ap}
-use Rattle.ur_syntax.specs.Words.{are_distinct}
+use Rattle.ur_page.specs.Words.{are_distinct}
 use Rattle.ur_form.proofs.FormPassing.{other, passed}
 use Rattle.ur_form.proofs.FormFunctions.{no_name, no_params, no_param, repeated, no_result, no_page, no_end}
 use Rattle.ur_form.proofs.function.function.Goals as goal

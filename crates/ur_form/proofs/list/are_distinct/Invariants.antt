@@ -1,5 +1,5 @@
 use Rattle.std.proofs.Common.{length, ◌-◌, ◌≡◌, ◌≤◌, drop}
-use Rattle.ur_syntax.specs.Words.{are_distinct}
+use Rattle.ur_page.specs.Words.{are_distinct}
 use Rattle.ur_form.proofs.list.are_distinct.Given as goal
 
 abbrev pub invariant-names : goal.invariant-names

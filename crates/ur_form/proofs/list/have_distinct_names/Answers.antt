@@ -1,5 +1,5 @@
 use Rattle.std.proofs.Common.{◌∙◌, ◌+◌, ◌&&◌, not, map, drop, arith, sym, ap}
-use Rattle.ur_syntax.specs.Words.{are_distinct}
+use Rattle.ur_page.specs.Words.{are_distinct}
 use Rattle.ur_form.proofs.FormLists.{from_place}
 use Rattle.ur_form.proofs.list.have_distinct_names.Goals as goal
 

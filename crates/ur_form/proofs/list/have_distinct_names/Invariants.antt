@@ -1,5 +1,5 @@
 use Rattle.std.proofs.Common.{length, ◌-◌, ◌≡◌, ◌≤◌, drop, map}
-use Rattle.ur_syntax.specs.Words.{are_distinct}
+use Rattle.ur_page.specs.Words.{are_distinct}
 use Rattle.ur_form.proofs.list.have_distinct_names.Given as goal
 
 abbrev pub invariant-functions : goal.invariant-functions

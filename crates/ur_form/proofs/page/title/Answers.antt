@@ -1,4 +1,4 @@
-use Rattle.ur_syntax.specs.Spelling.{SpellsTitle}
+use Rattle.ur_page.specs.Spelling.{SpellsTitle}
 use Rattle.ur_form.proofs.FormPassing.{other}
 use Rattle.ur_form.proofs.FormTags.{opened, whole}
 use Rattle.ur_form.proofs.FormPages.{no_title, title_unclosed, title_open}

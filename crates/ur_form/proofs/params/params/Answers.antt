@@ -1,5 +1,5 @@
 use Rattle.std.proofs.Common.{drop, arith, sym, subst}
-use Rattle.ur_syntax.specs.Spelling.{SpellsParam, SpellsParams}
+use Rattle.ur_page.specs.Spelling.{SpellsParam, SpellsParams}
 use Rattle.ur_form.proofs.FormPassing.{other}
 use Rattle.ur_form.proofs.FormRead.{Read, none_read, all_read}
 use Rattle.ur_form.proofs.FormParams.{param_more, none_here}

@@ -1,5 +1,5 @@
 use Rattle.std.proofs.Common.{◌-◌, ◌≤◌, length}
-use Rattle.ur_syntax.specs.Spelling.{SpellsParams}
+use Rattle.ur_page.specs.Spelling.{SpellsParams}
 use Rattle.ur_form.proofs.FormRead.{Read}
 use Rattle.ur_form.proofs.params.params.Given as goal
 

@@ -1,5 +1,5 @@
 use Rattle.std.proofs.Common.{◌∙◌, drop, arith, sym, subst}
-use Rattle.ur_syntax.specs.Spelling.{Opens, SpellsPart, SpellsElement, SpellsParts}
+use Rattle.ur_page.specs.Spelling.{Opens, SpellsPart, SpellsElement, SpellsParts}
 use Rattle.ur_form.specs.Form.{IsTag}
 use Rattle.ur_form.proofs.FormPassing.{other, passed}
 use Rattle.ur_form.proofs.FormRead.{nothing, none_read}

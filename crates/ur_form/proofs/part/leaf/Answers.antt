@@ -1,5 +1,5 @@
 use Rattle.std.proofs.Common.{arith}
-use Rattle.ur_syntax.specs.Spelling.{SpellsPart}
+use Rattle.ur_page.specs.Spelling.{SpellsPart}
 use Rattle.ur_form.proofs.FormPassing.{other}
 use Rattle.ur_form.proofs.FormParts.{only_show, only_run}
 use Rattle.ur_form.proofs.part.leaf.Goals as goal

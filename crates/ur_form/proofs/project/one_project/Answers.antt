@@ -1,4 +1,4 @@
-use Rattle.ur_syntax.proofs.Once.{project_once}
+use Rattle.ur_page.proofs.Once.{project_once}
 use Rattle.ur_form.proofs.project.one_project.Goals as goal
 
 pub returns : goal.returns

@@ -1,5 +1,5 @@
 use Rattle.std.proofs.Common.{[], sym, subst}
-use Rattle.ur_syntax.specs.Spelling.{SpellsFunctions}
+use Rattle.ur_page.specs.Spelling.{SpellsFunctions}
 use Rattle.ur_form.proofs.FormPassing.{passed}
 use Rattle.ur_form.proofs.FormRead.{Read, none_read, all_read}
 use Rattle.ur_form.proofs.FormFunctions.{Functions, function_more, none_here, at_end, before_end}

@@ -1,4 +1,4 @@
-use Rattle.ur_syntax.proofs.Once.{module_once}
+use Rattle.ur_page.proofs.Once.{module_once}
 use Rattle.ur_form.proofs.whole.one_module.Goals as goal
 
 pub returns : goal.returns

@@ -1,5 +1,5 @@
 use Rattle.std.proofs.Common.{◌∙◌, sym, ap, map}
-use Rattle.ur_syntax.specs.Words.{are_distinct}
+use Rattle.ur_page.specs.Words.{are_distinct}
 use Rattle.ur_form.proofs.FormFunctions.{no_module, same_names}
 use Rattle.ur_form.proofs.whole.parse_module.Goals as goal
 

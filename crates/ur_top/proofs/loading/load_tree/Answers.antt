@@ -1,6 +1,6 @@
 use Rattle.std.proofs.Common.{string_bytes, ap, ◌∙◌}
 use Rattle.ur_top.proofs.Loaded.{refused_missing, refused_other, module_lacks, module_too_long, module_other}
-use Rattle.ur_syntax.specs.declared.module.Module.{Module}
+use Rattle.ur_page.specs.declared.module.Module.{Module}
 use Rattle.ur_top.specs.Projects.{module_file}
 use Rattle.ur_top.proofs.loading.load_tree.Goals as goal
 

@@ -2,11 +2,11 @@
 -- behind what is spelled. Gaps are dropped between tokens, and the longest token is taken.
 use Rattle.std.specs.Prelude.{◌≡◌, ◌⊎◌, ℕ, ◌-◌, ◌<◌, Bool, true, false, List, [], ◌∷◌, ◌++◌, length, map, Some, None, IsUtf8, codes}
 use Rattle.std.specs.List.{take_while}
-use Rattle.ur_syntax.specs.declared.module.Module.{Module}
-use Rattle.ur_syntax.specs.declared.module.Function.{Function}
-use Rattle.ur_syntax.specs.declared.module.Page.{Page}
-use Rattle.ur_syntax.specs.declared.module.Part.{Part, Text, Element, Show}
-use Rattle.ur_syntax.specs.Words.{drop_while, is_blank, is_name_byte, is_tag_byte, is_text_byte, is_one_of, are_distinct, form_words, is_name, is_module_name, body_tags}
+use Rattle.ur_page.specs.declared.module.Module.{Module}
+use Rattle.ur_page.specs.declared.module.Function.{Function}
+use Rattle.ur_page.specs.declared.module.Page.{Page}
+use Rattle.ur_page.specs.declared.module.Part.{Part, Text, Element, Show}
+use Rattle.ur_page.specs.Words.{drop_while, is_blank, is_name_byte, is_tag_byte, is_text_byte, is_one_of, are_distinct, form_words, is_name, is_module_name, body_tags}
 
 -- ---- tokens
 

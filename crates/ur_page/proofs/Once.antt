@@ -2,12 +2,12 @@
 use Rattle.std.proofs.Common.{◌≡◌, ℕ, ◌-◌, Bool, true, false, List, [], ◌∷◌, ◌++◌, length, refl, sym, subst, ap, ◌∙◌, get_or, arith, Some, None, inl, inr, ◌&&◌, codes, append-nil, ◌⊎◌}
 use Rattle.std.specs.List.{take_while, list_all}
 use Rattle.std.proofs.lemmas.List.Sums.{take_while-cons}
-use Rattle.ur_syntax.specs.declared.module.Part.{Part, Element}
-use Rattle.ur_syntax.specs.declared.module.Page.{Page}
-use Rattle.ur_syntax.specs.declared.module.Function.{Function}
-use Rattle.ur_syntax.specs.declared.module.Module.{Module}
-use Rattle.ur_syntax.specs.Spelling.{Longest, SpellsParam, SpellsParams, Opens, Single, Closes, SpellsRun, SpellsShow, SpellsPart, SpellsElement, SpellsParts, SpellsTitle, SpellsHead, SpellsBody, SpellsPage, SpellsResult, SpellsFunction, SpellsFunctions, SpellsModule, SpellsProject, past_gap}
-use Rattle.ur_syntax.specs.Words.{is_tag_byte, is_text_byte, is_name_byte, is_one_of, body_tags, is_module_name, is_small, drop_while}
+use Rattle.ur_page.specs.declared.module.Part.{Part, Element}
+use Rattle.ur_page.specs.declared.module.Page.{Page}
+use Rattle.ur_page.specs.declared.module.Function.{Function}
+use Rattle.ur_page.specs.declared.module.Module.{Module}
+use Rattle.ur_page.specs.Spelling.{Longest, SpellsParam, SpellsParams, Opens, Single, Closes, SpellsRun, SpellsShow, SpellsPart, SpellsElement, SpellsParts, SpellsTitle, SpellsHead, SpellsBody, SpellsPage, SpellsResult, SpellsFunction, SpellsFunctions, SpellsModule, SpellsProject, past_gap}
+use Rattle.ur_page.specs.Words.{is_tag_byte, is_text_byte, is_name_byte, is_one_of, body_tags, is_module_name, is_small, drop_while}
 
 pub record Same {X : Type 0} (x y : X) (r s : List ℕ) : Type 0 where
   pub value : x ≡ y

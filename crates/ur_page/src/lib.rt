@@ -1,0 +1,6 @@
+//! The first page's form as a tree: a module of page functions, each with int parameters.
+#![tactic(auto)]
+
+mod module;
+
+pub use module::{Function, Module, Page, Part};
