@@ -1,3 +1,4 @@
 pub mod Equal
 pub mod Equations
 mod Examples
+pub mod Order

@@ -1,6 +1,8 @@
 //! A value as it stands in the key of a cache entry.
 ghost use Rattle.std.specs.Prelude.{◌≡◌, ◌^◌, ◌-◌, min};
 ghost use Rattle.ur_values.specs.Atom.{atom_value};
+ghost use Rattle.std.specs.Cmp.{IsTotalOrder};
+ghost use Rattle.ur_values.specs.AtomLaws.{EqualityDecides, OrderDecides, atom_cmp};
 ghost use Rattle.ur_values.specs.Size as sizes;
 
 use crate::size::text_size;
@@ -26,3 +28,10 @@ impl Atom {
         }
     }
 }
+
+/// Atoms as keys of maps: `==` and the order tell which atoms are the same, and the order is total.
+pub fn atom_laws()
+    ensures equality { EqualityDecides }
+    ensures order { OrderDecides }
+    ensures total { IsTotalOrder atom_cmp }
+{}

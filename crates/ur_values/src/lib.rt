@@ -2,6 +2,7 @@
 #![tactic(auto)]
 
 mod atom;
+mod compare;
 mod copy;
 mod nesting;
 mod same;
@@ -10,7 +11,8 @@ mod size;
 mod text;
 mod value;
 
-pub use atom::Atom;
+pub use atom::{Atom, atom_laws};
+pub use compare::compare_values;
 pub use copy::copy_values;
 pub use same::same_values;
 pub use schema::{ColumnKind, Numbered, Schema, TableShape};

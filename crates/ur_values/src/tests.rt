@@ -1,4 +1,6 @@
-use crate::{Atom, Call, ColumnKind, Node, Numbered, Schema, TableShape, Tag, Value};
+use crate::{
+    Atom, Call, ColumnKind, Node, Numbered, Schema, TableShape, Tag, Value, compare_values,
+};
 use std::alloc::Global;
 use std::cmp::Ordering;
 use std::test::Fail;
@@ -95,6 +97,43 @@ fn atoms_are_ordered_by_kind_and_then_by_value(rt: HostRuntime) -> Result<(), Fa
         last = Some(atom);
     }
     assert!(rt; !Value::Absent.is_atomic());
+    Ok(())
+}
+
+/// Whether the first value is below the second one.
+fn is_below(a: &Value, b: &Value) -> bool {
+    compare_values(a, b).is_lt() && compare_values(b, a).is_gt()
+}
+
+#[test]
+fn values_are_compared_by_kind(rt: HostRuntime) -> Result<(), Memory> {
+    let a = Value::Str(text(rt.alloc(), b"a")?);
+    let present = Value::Present(Boxed::new(rt.alloc(), Value::Int(0))?);
+    let unit = Value::Row(List::new(rt.alloc()));
+    assert!(rt; is_below(&Value::Int(i64::MAX), &Value::Bool(false)));
+    assert!(rt; is_below(&Value::Bool(true), &a));
+    assert!(rt; is_below(&a, &Value::Absent));
+    assert!(rt; is_below(&Value::Absent, &present));
+    assert!(rt; is_below(&present, &unit));
+    Ok(())
+}
+
+#[test]
+fn values_of_one_kind_are_compared(rt: HostRuntime) -> Result<(), Memory> {
+    let ab = Value::Str(text(rt.alloc(), b"ab")?);
+    let b = Value::Str(text(rt.alloc(), b"b")?);
+    assert!(rt; is_below(&Value::Int(-2), &Value::Int(10)));
+    assert!(rt; is_below(&Value::Bool(false), &Value::Bool(true)));
+    assert!(rt; is_below(&ab, &b));
+    assert!(rt; compare_values(&b, &b).is_eq());
+    Ok(())
+}
+
+#[test]
+fn present_values_are_compared_by_what_they_hold(rt: HostRuntime) -> Result<(), Memory> {
+    let low = Value::Present(Boxed::new(rt.alloc(), Value::Int(-2))?);
+    let high = Value::Present(Boxed::new(rt.alloc(), Value::Int(10))?);
+    assert!(rt; is_below(&low, &high));
     Ok(())
 }
 
