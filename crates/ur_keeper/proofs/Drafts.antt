@@ -1,13 +1,15 @@
 -- Rows with marks on those that are gone.
-use Rattle.std.proofs.Common.{◌≡◌, ℕ, zero, suc, ◌+◌, ◌<◌, ◌≤◌, Bool, true, false, ◌||◌, ◌==◌, List, [], ◌∷◌, ◌++◌, length, get_or, set, take, drop, refl, ap, ap₂, sym, subst, ◌∙◌, arith, length-set, slice_index, IsTrue}
+use Rattle.std.proofs.Common.{◌≡◌, ℕ, zero, suc, ◌+◌, ◌-◌, ◌<◌, ◌≤◌, Bool, true, false, ◌||◌, ◌==◌, List, [], ◌∷◌, ◌++◌, length, get_or, set, take, drop, refl, ap, ap₂, sym, subst, ◌∙◌, arith, length-set, slice_index, IsTrue}
 use Rattle.std.proofs.lemmas.Bool.Decides.{nat_tests}
 use Rattle.ur_values.specs.declared.schema.Numbered.{Numbered}
 use Rattle.ur_values.specs.Store.{Row}
 use Rattle.std.specs.List.Sorted.{IsStrictlyIncreasing}
 use Rattle.ur_values.specs.Numbered.{numbers_of, next_number, has_number, add_row, put_row, drop_row, HaveRisingNumbers}
 use Rattle.ur_keeper.specs.Drafts.{left}
-use Rattle.ur_keeper.proofs.Rising.{Above, Rising, rising, drop-above, put-at}
-use Rattle.ur_keeper.proofs.Keeping.{numbers-put}
+use Rattle.ur_keeper.proofs.Rising.{Above, Rising, rising, drop-above, put-above, put-at, next-last}
+use Rattle.std.proofs.Math.Seq.{take-length}
+use Rattle.std.proofs.lemmas.List.{length-map, length-take}
+use Rattle.ur_keeper.proofs.Keeping.{numbers-put, rises-added}
 
 left-none : (rows : List Numbered) → left rows [] ≡ rows
 left-none [] = refl
@@ -173,6 +175,19 @@ drop-marked (r ∷ rows) (false ∷ gone) (suc i) n s w v e =
     let other : (r.number == n) ≡ false = grind (arith, nat_tests) in
     rw other (ap (λ rest. r ∷ rest) (drop-marked rows gone i n s.1 (omega arith) (omega arith) e))
 
+put-marked : (rows : List Numbered) (gone : List Bool) (i n : ℕ) (row : Row) → Rising rows → i < length rows → slice_index (numbers_of rows) i ≡ n → left (set rows i (record { number = n; row = row })) gone ≡ put_row (left rows gone) n row
+put-marked [] gone i n row s w e = absurd (omega arith)
+put-marked (r ∷ rows) [] i n row s w e = left-none (set (r ∷ rows) i (record { number = n; row = row })) ∙ put-at (r ∷ rows) i n row s w e
+put-marked (r ∷ rows) (true ∷ gone) zero n row s w e = sym (put-above n row (left rows gone) (above-left n rows gone (subst (λ k. Above k rows) e s.0)))
+put-marked (r ∷ rows) (false ∷ gone) zero n row s w e =
+    let same : (r.number == n) ≡ true = grind (arith, nat_tests) in
+    rw same (ap (λ rest. record { number = n; row = row } ∷ rest) (sym (put-above n row (left rows gone) (above-left n rows gone (subst (λ k. Above k rows) e s.0)))))
+put-marked (r ∷ rows) (true ∷ gone) (suc i) n row s w e = put-marked rows gone i n row s.1 (omega arith) e
+put-marked (r ∷ rows) (false ∷ gone) (suc i) n row s w e =
+    let low = above-here r.number rows i s.0 (omega arith) in
+    let other : (r.number == n) ≡ false = grind (arith, nat_tests) in
+    rw other (ap (λ rest. r ∷ rest) (put-marked rows gone i n row s.1 (omega arith) e))
+
 pub row-marked : (rows : List Numbered) (gone : List Bool) (i n : ℕ) → HaveRisingNumbers rows → i < length rows → i < length gone → slice_index (numbers_of rows) i ≡ n → left rows (set gone i true) ≡ drop_row (left rows gone) n
 row-marked rows gone i n h w v e = drop-marked rows gone i n (rising rows h) w v e
 
@@ -191,24 +206,143 @@ left-has (r ∷ rows) (false ∷ gone) n h = go (r.number == n) (left-has rows g
     go true f h = refl
     go false f h = f h
 
+-- ---- the end is closed
+
+-- marks beyond the rows say nothing
+pub left-short : (rows : List Numbered) (gone : List Bool) (n : ℕ) → length rows ≤ n → left rows (take n gone) ≡ left rows gone
+left-short [] gone n h = refl
+left-short (r ∷ rows) gone zero h = absurd (omega arith)
+left-short (r ∷ rows) [] (suc n) h = refl
+left-short (r ∷ rows) (true ∷ gone) (suc n) h = left-short rows gone n (omega arith)
+left-short (r ∷ rows) (false ∷ gone) (suc n) h = ap (λ rest. r ∷ rest) (left-short rows gone n (omega arith))
+
+pub gone-within : (gone : List Bool) (i : ℕ) → get_or gone i false ≡ true → i < length gone
+gone-within [] i g = cc
+gone-within (b ∷ gone) zero g = omega arith
+gone-within (b ∷ gone) (suc i) g = omega (arith, gone-within gone i g)
+
+above-take : (m n : ℕ) (rows : List Numbered) → Above m rows → Above m (take n rows)
+above-take m zero rows a = tt
+above-take m (suc n) [] a = tt
+above-take m (suc n) (r ∷ rows) a = (a.0, above-take m n rows a.1)
+
+rising-take : (n : ℕ) (rows : List Numbered) → Rising rows → Rising (take n rows)
+rising-take zero rows s = tt
+rising-take (suc n) [] s = tt
+rising-take (suc n) (r ∷ rows) s = (above-take r.number n rows s.0, rising-take n rows s.1)
+
+rises-at : (rows : List Numbered) → Rising rows → (k : ℕ) → suc k < length rows → slice_index (numbers_of rows) k < slice_index (numbers_of rows) (suc k)
+rises-at [] s k w = absurd (omega arith)
+rises-at (r ∷ rows) s zero w = above-here r.number rows 0 s.0 (omega arith)
+rises-at (r ∷ rows) s (suc k) w = rises-at rows s.1 k (omega arith)
+
+rises : (rows : List Numbered) → Rising rows → HaveRisingNumbers rows
+rises rows s k w =
+    let next : suc k ≡ k + 1 = omega arith in
+    let within : k + 1 < length rows = simp length-map at w in
+    subst (λ m. slice_index (numbers_of rows) k < slice_index (numbers_of rows) m) next (rises-at rows s k (omega arith))
+
+pub take-rises : (n : ℕ) (rows : List Numbered) → HaveRisingNumbers rows → HaveRisingNumbers (take n rows)
+take-rises n rows h = rises (take n rows) (rising-take n rows (rising rows h))
+
+-- without the last row, which is gone
+pub left-cut : (rows : List Numbered) (gone : List Bool) → length gone ≤ length rows → get_or gone (length rows - 1) false ≡ true → left (take (length rows - 1) rows) (take (length rows - 1) gone) ≡ left rows gone
+left-cut rows gone m g =
+    let within : length rows - 1 < length gone = gone-within gone (length rows - 1) g in
+    let whole : suc (length rows - 1) ≡ length rows = omega arith in
+    left-short (take (length rows - 1) rows) gone (length rows - 1) (omega (arith, length-take (length rows - 1) rows))
+    ∙ sym (left-gone rows gone (length rows - 1) g) ∙ ap (λ n. left (take n rows) gone) whole ∙ ap (λ xs. left xs gone) (take-length rows)
+
+-- the rows without some that are gone at their end
+pub record ClosesEnd (all : List Numbered) (marks : List Bool) (rows : List Numbered) (gone : List Bool) : Type 0 where
+  pub same : left rows gone ≡ left all marks
+  pub rises : HaveRisingNumbers rows
+  pub marked : length gone ≤ length rows
+
+pub end-first : (rows : List Numbered) (gone cut : List Bool) (n : ℕ) → n ≡ length rows → cut ≡ take n gone → HaveRisingNumbers rows → ClosesEnd rows gone rows cut
+end-first rows gone cut n l e h =
+    let whole : cut ≡ take (length rows) gone = e ∙ ap (λ k. take k gone) l in
+    record {
+      same = ap (left rows) whole ∙ left-short rows gone (length rows) (omega arith);
+      rises = h;
+      marked = omega (arith, ap length whole, length-take (length rows) gone);
+    }
+
+pub end-next : (all : List Numbered) (marks : List Bool) (rows : List Numbered) (gone : List Bool) (rows' : List Numbered) (gone' : List Bool) (m n : ℕ) → ClosesEnd all marks rows gone → get_or gone (length rows - 1) false ≡ true
+    → m ≡ length rows - 1 → rows' ≡ take m rows → n ≡ length rows' → gone' ≡ take n gone → ClosesEnd all marks rows' gone'
+end-next all marks rows gone rows' gone' m n h g ml r nl e =
+    let cut : rows' ≡ take (length rows - 1) rows = r ∙ ap (λ k. take k rows) ml in
+    let shorter : length rows' ≡ length rows - 1 = omega (arith, ap length cut, length-take (length rows - 1) rows) in
+    let cut' : gone' ≡ take (length rows - 1) gone = e ∙ ap (λ k. take k gone) (nl ∙ shorter) in
+    record {
+      same = ap₂ left cut cut' ∙ left-cut rows gone h.marked g ∙ h.same;
+      rises = subst (λ xs. HaveRisingNumbers xs) (sym cut) (take-rises (length rows - 1) rows h.rises);
+      marked = omega (arith, ap length cut', length-take (length rows - 1) gone);
+    }
+
+pub end-not-empty : (rows : List Numbered) (gone : List Bool) → length gone ≤ length rows → get_or gone (length rows - 1) false ≡ true → 1 ≤ length rows
+end-not-empty rows gone m g = omega (arith, gone-within gone (length rows - 1) g)
+
+-- ---- a row is added
+
+left-push : (rows : List Numbered) (gone : List Bool) (x : Numbered) → length gone ≤ length rows → left (rows ++ x ∷ []) gone ≡ left rows gone ++ x ∷ []
+left-push [] [] x m = refl
+left-push [] (b ∷ gone) x m = absurd (omega arith)
+left-push (r ∷ rows) [] x m = refl
+left-push (r ∷ rows) (true ∷ gone) x m = left-push rows gone x (omega arith)
+left-push (r ∷ rows) (false ∷ gone) x m = ap (λ rest. r ∷ rest) (left-push rows gone x (omega arith))
+
+rising-left : (rows : List Numbered) (gone : List Bool) → Rising rows → Rising (left rows gone)
+rising-left [] gone s = tt
+rising-left (r ∷ rows) [] s = s
+rising-left (r ∷ rows) (true ∷ gone) s = rising-left rows gone s.1
+rising-left (r ∷ rows) (false ∷ gone) s = (above-left r.number rows gone s.0, rising-left rows gone s.1)
+
+-- where the last row is left, the next number is the same
+pub next-left : (rows : List Numbered) (gone : List Bool) → Rising rows → get_or gone (length rows - 1) false ≡ false → next_number (left rows gone) ≡ next_number rows
+next-left [] gone s g = refl
+next-left (r ∷ rows) gone s g =
+    let all = r ∷ rows in
+    let n = length all - 1 in
+    let last = get_or all n r in
+    let whole : suc n ≡ length all = omega arith in
+    let there : last ≡ get_or all n last = get-any all n r last (omega arith) in
+    let split : all ≡ take n all ++ last ∷ [] = sym (take-length all) ∙ ap (λ k. take k all) (sym whole) ∙ take-one all n last (omega arith) there in
+    let split' : left all gone ≡ left (take n all) gone ++ last ∷ [] = ap (λ xs. left xs gone) (sym (take-length all)) ∙ ap (λ k. left (take k all) gone) (sym whole) ∙ left-there all gone n last (omega arith) there g in
+    let first : next_number (left all gone) ≡ last.number + 1 = ap next_number split' ∙ next-last (left (take n all) gone) last (subst (λ xs. Rising xs) split' (rising-left all gone s)) in
+    let second : next_number all ≡ last.number + 1 = ap next_number split ∙ next-last (take n all) last (subst (λ xs. Rising xs) split s) in
+    first ∙ sym second
+
 -- ---- the calls
 
 pub left-of : (rows now : List Numbered) (gone : List Bool) → rows ≡ now → gone ≡ [] → left rows gone ≡ now
 left-of rows now gone r g = ap₂ left r g ∙ left-none now
 
-pub row-added : (now rows seen ys : List Numbered) (number : ℕ) (row : Row) → rows ≡ now → seen ≡ rows → number ≡ next_number seen → ys ≡ rows ++ record { number = number; row = row } ∷ [] → ys ≡ add_row now row
-row-added now rows seen ys number row r s n e =
+pub row-added : (now rows seen ys : List Numbered) (gone : List Bool) (number : ℕ) (row : Row) → left rows gone ≡ now → seen ≡ rows → HaveRisingNumbers rows → length gone ≤ length rows → get_or gone (length rows - 1) false ≡ false
+    → number ≡ next_number seen → ys ≡ rows ++ record { number = number; row = row } ∷ [] → left ys gone ≡ add_row now row
+row-added now rows seen ys gone number row v s h m l n e =
     let last : List Numbered → ℕ → List Numbered = λ rs k. rs ++ record { number = k; row = row } ∷ [] in
-    e ∙ ap₂ last r (n ∙ ap next_number (s ∙ r))
+    let next : number ≡ next_number now = n ∙ ap next_number s ∙ sym (next-left rows gone (rising rows h) l) ∙ ap next_number v in
+    ap (λ xs. left xs gone) e ∙ left-push rows gone (record { number = number; row = row }) m ∙ ap₂ last v next
 
-pub row-put : (now rows seen : List Numbered) (at n : ℕ) (row : Row) → rows ≡ now → seen ≡ rows → HaveRisingNumbers now → at < length seen → slice_index (numbers_of seen) at ≡ n → set rows at (record { number = n; row = row }) ≡ put_row now n row
-row-put now rows seen at n row r s h w f =
-    let within : at < length now = subst (λ xs. at < length xs) (s ∙ r) w in
-    let found : slice_index (numbers_of now) at ≡ n = subst (λ xs. slice_index (numbers_of xs) at ≡ n) (s ∙ r) f in
-    ap (λ xs. set xs at (record { number = n; row = row })) r ∙ put-at now at n row (rising now h) within found
+pub push-rises : (rows seen ys : List Numbered) (number : ℕ) (row : Row) → seen ≡ rows → HaveRisingNumbers rows → number ≡ next_number seen → ys ≡ rows ++ record { number = number; row = row } ∷ [] → HaveRisingNumbers ys
+push-rises rows seen ys number row s h n e =
+    let last : ℕ → List Numbered = λ k. rows ++ record { number = k; row = row } ∷ [] in
+    let added : ys ≡ add_row rows row = e ∙ ap last (n ∙ ap next_number s) in
+    subst (λ xs. HaveRisingNumbers xs) (sym added) (rises-added rows row h)
 
-pub put-rises : (now ys : List Numbered) (n : ℕ) (row : Row) → ys ≡ put_row now n row → HaveRisingNumbers now → HaveRisingNumbers ys
-put-rises now ys n row e h = subst (λ xs. IsStrictlyIncreasing xs) (sym (ap numbers_of e ∙ numbers-put now n row)) h
+pub row-put : (now rows seen : List Numbered) (gone : List Bool) (at n : ℕ) (row : Row) → left rows gone ≡ now → seen ≡ rows → HaveRisingNumbers rows → at < length seen → slice_index (numbers_of seen) at ≡ n
+    → left (set rows at (record { number = n; row = row })) gone ≡ put_row now n row
+row-put now rows seen gone at n row v s h w f =
+    let within : at < length rows = subst (λ xs. at < length xs) s w in
+    let found : slice_index (numbers_of rows) at ≡ n = subst (λ xs. slice_index (numbers_of xs) at ≡ n) s f in
+    put-marked rows gone at n row (rising rows h) within found ∙ ap (λ xs. put_row xs n row) v
+
+pub set-rises : (rows seen : List Numbered) (at n : ℕ) (row : Row) → seen ≡ rows → HaveRisingNumbers rows → at < length seen → slice_index (numbers_of seen) at ≡ n → HaveRisingNumbers (set rows at (record { number = n; row = row }))
+set-rises rows seen at n row s h w f =
+    let within : at < length rows = subst (λ xs. at < length xs) s w in
+    let found : slice_index (numbers_of rows) at ≡ n = subst (λ xs. slice_index (numbers_of xs) at ≡ n) s f in
+    subst (λ xs. IsStrictlyIncreasing xs) (sym (ap numbers_of (put-at rows at n row (rising rows h) within found) ∙ numbers-put rows n row)) h
 
 pub row-removed : (now rows seen : List Numbered) (gone marked : List Bool) (at n : ℕ) → left rows gone ≡ now → left rows marked ≡ left rows gone → seen ≡ rows → HaveRisingNumbers rows → at < length seen → length seen ≤ length marked
     → slice_index (numbers_of seen) at ≡ n → left rows (set marked at true) ≡ drop_row now n

@@ -1,5 +1,5 @@
 //! The rows of a table that the transaction under way has changed.
-ghost use Rattle.std.specs.Prelude.{◌≡◌, ◌+◌, ◌≤◌, ◌<◌, ◌^◌, ℕ, [], false, IsTrue, IfOk, OnOk, OnErr, length, slice_index, slice_index_or, List};
+ghost use Rattle.std.specs.Prelude.{◌≡◌, ◌+◌, ◌≤◌, ◌<◌, ◌-◌, ◌^◌, ℕ, [], false, IsTrue, IfOk, OnOk, OnErr, length, slice_index, slice_index_or, List};
 ghost use Rattle.ur_values.specs.declared.schema.Numbered.{Numbered};
 ghost use Rattle.ur_values.specs.Numbered.{next_number, has_number, add_row, put_row, drop_row, numbers_of, HaveRisingNumbers};
 ghost use Rattle.ur_keeper.specs.Drafts.{left};
@@ -9,8 +9,8 @@ use std::marker::Model;
 use ur_base::{List, Memory};
 use ur_values::{Numbered, Row};
 
-/// Rows under change. A removed row is marked as gone and stands until the next change of another kind, so that
-/// removing many rows moves each of the others once. Contracts see the rows that are left.
+/// Rows under change. A removed row is marked as gone and stands until the rows are saved or a row is added after it, so
+/// that no change moves the other rows. Contracts see the rows that are left.
 #[derive(Drop)]
 pub(crate) struct Draft {
     rows: Vec<Numbered>,
@@ -68,7 +68,7 @@ impl Draft {
         ensures ok { OnOk result (self.new ≡ add_row self.old row) }
         ensures err { OnErr result (self.new ≡ self.old) }
     {
-        close_up(&mut self.rows, &mut self.gone);
+        close_end(&mut self.rows, &mut self.gone);
         let number = number_after(&self.rows);
         self.rows.push(Numbered { number, row })?;
         Ok(())
@@ -80,7 +80,6 @@ impl Draft {
         requires there { IsTrue (has_number self.old number) }
         ensures { self.new ≡ put_row self.old number row }
     {
-        close_up(&mut self.rows, &mut self.gone);
         let at = find(&self.rows, number);
         self.rows[at] = Numbered { number, row };
     }
@@ -114,6 +113,21 @@ fn mark_up_to(gone: &mut Vec<bool>, count: usize) -> Result<(), Memory>
         gone.push(false)?;
     }
     Ok(())
+}
+
+/// Lets the rows at the end go that are gone, so that the last row is left. Takes no memory.
+fn close_end(rows: &mut Vec<Numbered>, gone: &mut Vec<bool>)
+    requires rising { HaveRisingNumbers rows.old.items }
+    ensures left { left rows.new.items gone.new.items ≡ left rows.old.items gone.old.items }
+    ensures rising { HaveRisingNumbers rows.new.items }
+    ensures marks { length gone.new.items ≤ length rows.new.items }
+    ensures last { slice_index_or gone.new.items (length rows.new.items - 1) false ≡ false }
+{
+    gone.truncate(rows.len());
+    while is_gone(gone, rows.len().saturating_sub(1)) {
+        rows.truncate(rows.len() - 1);
+        gone.truncate(rows.len());
+    }
 }
 
 /// Moves the rows that are left together. Takes no memory.

@@ -2,8 +2,9 @@ ghost use Rattle.std.specs.Prelude.{◌≡◌, ◌<◌, false, length, Some, IfO
 ghost use Rattle.ur_keeper.specs.Tables.{Keeps};
 ghost use Rattle.ur_keeper.specs.Keeper.{IsRowOf};
 ghost use Rattle.ur_keeper.specs.Memory.{empty_memory};
+ghost use Rattle.ur_keeper.specs.Trials.{HasOneTable};
 
-use crate::{Attached, Keeper, KeeperEnd, MemoryKeeper};
+use crate::{Attached, Keeper, KeeperEnd, MemoryKeeper, add_row};
 use std::alloc::Global;
 use std::test::Fail;
 use ur_base::{List, Memory};
@@ -66,6 +67,23 @@ fn numbers(
     Ok(rows)
 }
 
+/// Whether a second row is added to a table without keys after a first one, how many rows are saved then and how many
+/// scans there were.
+fn second_row(
+    keeper: &mut MemoryKeeper,
+    schema: &Schema,
+    row: &Row,
+) -> Result<(Result<(), KeeperEnd>, usize, u64), KeeperEnd>
+    requires fresh { keeper.old ≡ empty_memory keeper.old.plan.fail }
+    requires table { HasOneTable schema.now }
+    requires row { IsRowOf (Keeps schema.now) 0 row.now }
+{
+    drop(keeper.attach(schema)?);
+    add_row(keeper, 0, row)?;
+    let added = add_row(keeper, 0, row);
+    Ok((added, keeper.table(0).len(), keeper.reads()))
+}
+
 /// Attaches a store, between transactions.
 fn attached<K: Keeper>(keeper: &mut K, schema: &Schema) -> Result<Attached, KeeperEnd>
     requires { K.under_way keeper.old ≡ false }
@@ -111,6 +129,47 @@ fn each_call_fails_by_its_number(rt: HostRuntime) -> Result<(), Fail> {
         assert!(rt; failed == (call < 8), "call {call}");
         assert!(rt; ended.is_ok() == (call == 8), "call {call}");
         assert!(rt; keeper.reads() == u64::from(call > 1), "call {call}");
+    }
+    Ok(())
+}
+
+/// A table with an int column and no key; and a row of the table.
+fn plain(alloc: Global) -> Result<(Schema, Row), Memory>
+    ensures table { IfOk result (λ made. HasOneTable made.0) }
+    ensures row { IfOk result (λ made. IsRowOf (Keeps made.0) 0 made.1) }
+{
+    let mut columns = List::new(alloc);
+    columns.push((List::from_slice(alloc, b"Id")?, ColumnKind::Int))?;
+    let name = List::from_slice(alloc, b"Notes")?;
+    let mut tables = List::new(alloc);
+    tables.push(TableShape {
+        name,
+        columns,
+        keys: List::new(alloc),
+        primary: false,
+    })?;
+    let sequences = List::new(alloc);
+    let mut row = List::new(alloc);
+    row.push(Value::Int(7))?;
+    Ok((Schema { tables, sequences }, row))
+}
+
+/// The calls are attach, then scan, insert and commit, twice.
+#[test]
+fn a_row_is_added_whole_or_not_at_all(rt: HostRuntime) -> Result<(), Fail> {
+    let alloc = rt.alloc();
+    let (schema, row) = plain(alloc)?;
+    for call in 5..=8_u64 {
+        let mut keeper = MemoryKeeper::new(alloc, List::from_slice(alloc, &[call])?);
+        match second_row(&mut keeper, &schema, &row) {
+            Ok((added, rows, reads)) => {
+                let failed = added == Err(KeeperEnd::Failed);
+                assert!(rt; failed == (call < 8), "call {call}");
+                assert_eq!(rt; rows, if call < 8 { 1 } else { 2 }, "call {call}");
+                assert_eq!(rt; reads, 2, "call {call}");
+            }
+            Err(_) => assert!(rt; false, "call {call}"),
+        }
     }
     Ok(())
 }

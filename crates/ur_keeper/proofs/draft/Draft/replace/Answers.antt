@@ -1,14 +1,15 @@
-use Rattle.std.proofs.Common.{◌≡◌, set, ◌∙◌}
-use Rattle.ur_values.specs.Numbered.{put_row}
-use Rattle.ur_keeper.proofs.Drafts.{left-of, row-put, put-rises}
+use Rattle.std.proofs.Common.{◌≡◌, set, IsTrue, sym, subst}
+use Rattle.ur_values.specs.Numbered.{has_number}
+use Rattle.ur_keeper.proofs.Drafts.{left-has, row-put, set-rises}
 use Rattle.ur_keeper.proofs.draft.Draft.replace.Goals as goal
 
-put : (c : goal.After-drop-index_mut) → set c.close_up.new.rows.items c.find-at.result (record { number = c.args.number; row = c.args.row }) ≡ put_row c.args.self.now c.args.number c.args.row
-put c =
-    row-put c.args.self.now c.close_up.new.rows.items c.deref.result.now c.find-at.result c.args.number c.args.row (c.close_up.ensures.rows ∙ c.self.view_is) c.deref.ensures.value c.requires.rising c.find-at.ensures.within c.find-at.ensures.found
+pub find-at-requires-clause-there : goal.find-at-requires-clause-there
+find-at-requires-clause-there c =
+    subst (λ rows. IsTrue (has_number rows c.args.number)) (sym c.deref.ensures.value)
+    (left-has c.self.inside.rows.items c.self.inside.gone.items c.args.number (subst (λ rows. IsTrue (has_number rows c.args.number)) (sym c.self.view_is) c.requires.there))
 
 pub invariant_of-self : goal.invariant_of-self
-invariant_of-self c = put-rises c.args.self.now _ c.args.number c.args.row (put c) c.requires.rising
+invariant_of-self c = set-rises c.self.inside.rows.items c.deref.result.now c.find-at.result c.args.number c.args.row c.deref.ensures.value c.self.invariant c.find-at.ensures.within c.find-at.ensures.found
 
 pub returns : goal.returns
-returns c = left-of _ (put_row c.args.self.now c.args.number c.args.row) c.close_up.new.gone.items (put c) c.close_up.ensures.gone
+returns c = row-put c.args.self.now c.self.inside.rows.items c.deref.result.now c.self.inside.gone.items c.find-at.result c.args.number c.args.row c.self.view_is c.deref.ensures.value c.self.invariant c.find-at.ensures.within c.find-at.ensures.found
