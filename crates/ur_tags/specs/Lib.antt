@@ -1,0 +1,4 @@
+pub mod Paths
+pub mod Routes
+pub mod Segments
+pub mod Show
