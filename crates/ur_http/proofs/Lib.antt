@@ -1,0 +1,12 @@
+pub mod Windows
+pub mod Places
+pub mod Targets
+pub mod Values
+pub mod Faults
+pub mod Pairs
+pub mod Methods
+pub mod Begun
+pub mod Buffered
+pub mod Once
+pub mod Examples
+pub mod Whole
