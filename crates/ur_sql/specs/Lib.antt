@@ -1,0 +1,14 @@
+pub mod Answer
+pub mod Best
+pub mod Change
+pub mod Groups
+pub mod Join
+pub mod KeyOrder
+pub mod Merged
+pub mod Nodes
+pub mod Operand
+pub mod Plan
+pub mod Scalar
+pub mod SortKeys
+pub mod Sql
+pub mod Typing
