@@ -3,9 +3,10 @@ use Rattle.std.proofs.Common.{◌≡◌, ◌≢◌, ℕ, ◌<◌, Bool, true, fa
 use Rattle.ur_congruence.specs.declared.terms.TermNode.{TermNode}
 use Rattle.ur_congruence.specs.declared.terms.TermNode.TheVariants.{Apply}
 use Rattle.ur_congruence.specs.declared.terms.Terms.{Terms}
-use Rattle.ur_congruence.specs.Labels.{AreSound, AreClosed, AreTerms}
+use Rattle.ur_congruence.specs.Labels.{AreSound, AreTerms}
+use Rattle.ur_congruence.specs.Table.{AreCurrent}
 use Rattle.ur_congruence.specs.Kept.{IsSettled, HasArguments}
-use Rattle.ur_congruence.proofs.Grown.{terms_added, closed_added, sound_added}
+use Rattle.ur_congruence.proofs.Grown.{terms_added, current_grown, sound_added}
 
 module _ (old : Terms) (node : TermNode) (number : ℕ) (settled : IsSettled old) (is : number ≡ length old.nodes.keys)
     (keys : List TermNode) (labels : List ℕ) (marks : List Bool)
@@ -18,9 +19,9 @@ module _ (old : Terms) (node : TermNode) (number : ℕ) (settled : IsSettled old
       rw (nodes_are, users_are, labels_are, marks_are, is)
       (terms_added old.nodes.keys old.users.items old.classes.labels.items old.waiting.marks.items node settled.kept.terms few new has (rw is at noted))
 
-  pub closed_are : AreClosed keys labels marks
-  closed_are = rw (nodes_are, labels_are, marks_are, is)
-      (closed_added old.nodes.keys old.users.items old.classes.labels.items old.waiting.marks.items node settled.kept.terms settled.closed)
+  pub current_are : AreCurrent keys labels marks old.table
+  current_are = rw (nodes_are, labels_are, marks_are, is)
+      (current_grown old.nodes.keys old.users.items old.classes.labels.items old.waiting.marks.items node settled.kept.terms old.table settled.current)
 
   pub sound_are : (equations : List (ℕ × ℕ)) → AreSound old.nodes.keys equations old.classes.labels.items → AreSound keys equations labels
   sound_are equations sound = rw (nodes_are, labels_are, is)

@@ -3,16 +3,19 @@ use Rattle.std.proofs.Common.{◌≡◌, ◌⊎◌, inl, inr, ℕ, ◌+◌, ◌*
 use Rattle.std.specs.List.{count_by}
 use Rattle.std.proofs.lemmas.List.Sums.{count_by-le-length}
 use Rattle.ur_congruence.specs.declared.terms.Terms.{Terms}
-use Rattle.ur_congruence.specs.Labels.{AreSound, AreClosed}
+use Rattle.ur_congruence.specs.Labels.{AreSound}
+use Rattle.ur_congruence.specs.Table.{AreCurrent}
 use Rattle.ur_congruence.specs.Rings.{class_count}
-use Rattle.ur_congruence.specs.Kept.{IsKept, Goes}
+use Rattle.ur_congruence.specs.Kept.{IsKept, Goes, HasRoom}
 use Rattle.ur_congruence.proofs.Stack.{count_unmarked}
 
 pub record Closing (old new : Terms) : Type 0 where
   pub kept : IsKept new
   pub goes : Goes old new
   pub size : length new.classes.labels.items ≡ length old.classes.labels.items
-  pub closed : AreClosed old.nodes.keys new.classes.labels.items new.waiting.marks.items
+  pub room : HasRoom new
+  pub heads : length new.table.heads.items ≡ length old.table.heads.items
+  pub current : AreCurrent old.nodes.keys new.classes.labels.items new.waiting.marks.items new.table
   pub sound : (equations : List (ℕ × ℕ)) → AreSound old.nodes.keys equations old.classes.labels.items → AreSound old.nodes.keys equations new.classes.labels.items
 
 -- the work that is left: classes to be joined, and terms that wait

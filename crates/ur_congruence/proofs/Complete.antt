@@ -65,7 +65,7 @@ pub same_follows : (t : Terms) (equations : List (ℕ × ℕ)) → IsClosed t eq
     × (Follows (record { nodes = t.nodes.keys; equations = equations }) a b → IsTrue (nat_eq la lb))
 same_follows t equations c a b la lb a_in b_in e f = (
   λ same. c.sound a b a_in b_in (sym e ∙ (Decides-eqb la lb).0 same ∙ f),
-  λ follows. (Decides-eqb la lb).1 (e ∙ label_eq t.nodes.keys equations t.classes.labels.items t.waiting.marks.items c.settled.closed c.settled.unmarked c.complete a b follows ∙ sym f),
+  λ follows. (Decides-eqb la lb).1 (e ∙ label_eq t.nodes.keys equations t.classes.labels.items t.waiting.marks.items c.settled.current.closed c.settled.unmarked c.complete a b follows ∙ sym f),
 )
 
 -- one equation more

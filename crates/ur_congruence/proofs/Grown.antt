@@ -1,5 +1,5 @@
 -- Terms after a new one is added.
-use Rattle.std.proofs.Common.{◌≡◌, ◌≢◌, ◌⊎◌, inl, inr, ℕ, zero, suc, ◌+◌, ◌<◌, Bool, true, false, List, [], ◌∷◌, ◌++◌, length, set, get_or, Some, All, Contains, refl, ap, sym, ◌∙◌, subst, arith, length-set, get_or-set_same}
+use Rattle.std.proofs.Common.{◌≡◌, ◌≢◌, ◌⊎◌, inl, inr, ℕ, zero, suc, ◌+◌, ◌%◌, ◌<◌, Bool, true, false, List, [], ◌∷◌, ◌++◌, length, set, get_or, Some, All, Contains, refl, ap, sym, ◌∙◌, subst, arith, length-set, get_or-set_same}
 use Rattle.std.specs.Prelude.{slice_get}
 use Rattle.std.proofs.lemmas.List.{get_or_append_left, length_push}
 use Rattle.std.proofs.lemmas.Option.{get_or_from_slice_get}
@@ -10,9 +10,12 @@ use Rattle.ur_congruence.specs.declared.terms.TermNode.{TermNode}
 use Rattle.ur_congruence.specs.declared.terms.TermNode.TheVariants.{Apply}
 use Rattle.ur_congruence.specs.Derives.{reflexive}
 use Rattle.ur_congruence.specs.Terms.{IsApplied, Follows}
-use Rattle.ur_congruence.specs.Labels.{labels_of, AreSound, IsMarked, AreClosed, AreTerms, Coarsens}
+use Rattle.ur_congruence.specs.Labels.{labels_of, AreSound, AreCongruent, IsMarked, AreClosed, AreTerms, Coarsens}
+use Rattle.ur_congruence.specs.Table.{IsAt, AreNoted, AreCurrent, hash_of}
+use Rattle.ur_congruence.specs.declared.table.Table.{Table}
 use Rattle.ur_congruence.specs.Kept.{HasArguments}
 use Rattle.ur_congruence.proofs.Complete.{derives_more}
+use Rattle.ur_congruence.proofs.Congruence.{within_get}
 use Rattle.ur_congruence.proofs.Marked.{marked_still}
 use Rattle.ur_congruence.proofs.Lists.{cons_eq}
 
@@ -88,7 +91,7 @@ module _ (nodes : List TermNode) (users : List (List ℕ)) (labels : List ℕ) (
   in_labels : (args : List ℕ) → All (λ a. a < n) args → All (λ a. a < length labels) args
   in_labels args all = All-weaker (λ a. a < n) (λ a. a < length labels) (λ a below. (let e = terms.labels_length in omega arith)) args all
 
-  pub closed_added : AreClosed nodes labels marks → AreClosed (nodes ++ node ∷ []) (labels ++ length nodes ∷ []) (set (marks ++ false ∷ []) (length nodes) true)
+  closed_added : AreClosed nodes labels marks → AreClosed (nodes ++ node ∷ []) (labels ++ length nodes ∷ []) (set (marks ++ false ∷ []) (length nodes) true)
   closed_added closed s t c = elim (at_end nodes node s (Apply c.symbol c.left) c.is_left) [
     | inl old_s ↦ (elim (at_end nodes node t (Apply c.symbol c.right) c.is_right) [
       | inl old_t ↦ (
@@ -102,6 +105,35 @@ module _ (nodes : List TermNode) (users : List (List ℕ)) (labels : List ℕ) (
     ])
     | inr new_s ↦ inr (inl (subst (λ (x : ℕ). IsMarked (set (marks ++ false ∷ []) n true) x) (sym new_s.0) new_marked))
   ]
+
+  congruent_added : (s t : ℕ) → AreCongruent nodes labels s t → AreCongruent (nodes ++ node ∷ []) (labels ++ n ∷ []) s t
+  congruent_added s t c = record {
+    symbol = c.symbol;
+    left = c.left;
+    right = c.right;
+    is_left = old_still nodes node s (Apply c.symbol c.left) c.is_left;
+    is_right = old_still nodes node t (Apply c.symbol c.right) c.is_right;
+    same = same_labels_of labels n c.left (in_labels c.left (terms.arguments s c.symbol c.left c.is_left)) ∙ c.same
+        ∙ sym (same_labels_of labels n c.right (in_labels c.right (terms.arguments t c.symbol c.right c.is_right)));
+  }
+
+  noted_added : (table : Table) → AreNoted nodes labels marks table → AreNoted (nodes ++ node ∷ []) (labels ++ length nodes ∷ []) (set (marks ++ false ∷ []) (length nodes) true) table
+  noted_added table noted t f args is = elim (at_end nodes node t (Apply f args) is) [
+    | inl old ↦ (elim (noted t f args old.1) [
+      | inl waits ↦ inl (old_marked t old.0 waits)
+      | inr m ↦ inr (record {
+        other = m.other;
+        there = subst (λ (ls : List ℕ). IsAt table (hash_of f ls % length table.heads.items) m.other)
+            (sym (same_labels_of labels n args (in_labels args (terms.arguments t f args old.1)))) m.there;
+        congruent = congruent_added t m.other m.congruent;
+        same = old_label t old.0 ∙ m.same ∙ sym (old_label m.other (within_get nodes m.other (Apply m.congruent.symbol m.congruent.right) m.congruent.is_right));
+      })
+    ])
+    | inr new ↦ inl (subst (λ (x : ℕ). IsMarked (set (marks ++ false ∷ []) n true) x) (sym new.0) new_marked)
+  ]
+
+  pub current_grown : (table : Table) → AreCurrent nodes labels marks table → AreCurrent (nodes ++ node ∷ []) (labels ++ length nodes ∷ []) (set (marks ++ false ∷ []) (length nodes) true) table
+  current_grown table current = record { closed = closed_added current.closed; noted = noted_added table current.noted }
 
   new_label : get_or (labels ++ n ∷ []) n 0 ≡ n
   new_label = ap (λ (t : ℕ). get_or (labels ++ n ∷ []) t 0) (sym terms.labels_length) ∙ get_or-append_seam labels n [] 0

@@ -10,12 +10,11 @@ pub mod Lists
 pub mod Marked
 pub mod Members
 pub mod NodeEq
-pub mod Nodes
 pub mod Noted
 pub mod Relabelled
 pub mod Rings
 pub mod Settled
 pub mod Sound
 pub mod Stack
+pub mod Tabled
 pub mod Termed
-pub mod Walked

@@ -105,7 +105,7 @@ class_members t equations c a members sorted a_in once exactly moved rises =
             (inside, c.sound a s a_in inside (sym has.1)),
         λ h. Contains-permutation members sorted s moved ((exactly s).1 (
           (let w = h.0 in omega arith),
-          sym (label_eq t.nodes.keys equations t.classes.labels.items t.waiting.marks.items c.settled.closed c.settled.unmarked c.complete a s h.1),
+          sym (label_eq t.nodes.keys equations t.classes.labels.items t.waiting.marks.items c.settled.current.closed c.settled.unmarked c.complete a s h.1),
         )),
       );
     }

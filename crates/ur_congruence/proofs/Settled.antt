@@ -11,8 +11,8 @@ roomier marks marks' stack stack' a b e f le w =
 
 pub settled_same : (t u : Terms) → IsSettled t → u.nodes.keys ≡ t.nodes.keys → UsersGrow t.users.items u.users.items → u.classes.labels.items ≡ t.classes.labels.items
     → u.classes.next.items ≡ t.classes.next.items → u.classes.sizes.items ≡ t.classes.sizes.items → u.waiting.marks.items ≡ t.waiting.marks.items
-    → u.waiting.stack.items ≡ t.waiting.stack.items → vec_capacity t.waiting.stack ≤ vec_capacity u.waiting.stack → IsSettled u
-settled_same t u s nodes grow labels next sizes marks stack room =
+    → u.waiting.stack.items ≡ t.waiting.stack.items → vec_capacity t.waiting.stack ≤ vec_capacity u.waiting.stack → u.table ≡ t.table → IsSettled u
+settled_same t u s nodes grow labels next sizes marks stack room table =
     let a = s.kept.terms in
     record {
       kept = record {
@@ -27,7 +27,9 @@ settled_same t u s nodes grow labels next sizes marks stack room =
         });
         rings = rw (labels, next, sizes) s.kept.rings;
         waiting = roomier t.waiting.marks.items u.waiting.marks.items t.waiting.stack.items u.waiting.stack.items (vec_capacity t.waiting.stack) (vec_capacity u.waiting.stack) marks stack room s.kept.waiting;
+        table = rw table s.kept.table;
+        wide = rw (nodes, table) s.kept.wide;
       };
       unmarked = rw marks s.unmarked;
-      closed = rw (nodes, labels, marks) s.closed;
+      current = rw (nodes, labels, marks, table) s.current;
     }

@@ -1,15 +1,22 @@
 -- What stands of terms and their classes between two steps.
-use Rattle.std.specs.Prelude.{◌≡◌, ◌≢◌, ℕ, ◌<◌, false, List, [], length, All, Contains, slice_index, slice_index_or, vec_capacity}
+use Rattle.std.specs.Prelude.{◌≡◌, ◌≢◌, ℕ, ◌+◌, ◌*◌, ◌<◌, ◌≤◌, false, List, [], length, All, Contains, slice_index, slice_index_or, vec_capacity}
 use Rattle.ur_congruence.specs.declared.terms.TermNode.{TermNode}
 use Rattle.ur_congruence.specs.declared.terms.TermNode.TheVariants.{Apply}
 use Rattle.ur_congruence.specs.declared.terms.Terms.{Terms}
-use Rattle.ur_congruence.specs.Labels.{AreTerms, AreCongruent, AreClosed, AreSound, Coarsens, KeepEquations}
+use Rattle.ur_congruence.specs.Labels.{AreTerms, AreCongruent, AreSound, Coarsens, KeepEquations}
 use Rattle.ur_congruence.specs.Rings.{AreRings, AreWaiting}
+use Rattle.ur_congruence.specs.Table.{AreCurrent, IsTable}
 
 pub record IsKept (t : Terms) : Type 0 where
   pub terms : AreTerms t.nodes.keys t.users.items t.classes.labels.items t.waiting.marks.items
   pub rings : AreRings t.classes.labels.items t.classes.next.items t.classes.sizes.items
   pub waiting : AreWaiting t.waiting.marks.items t.waiting.stack.items (vec_capacity t.waiting.stack)
+  pub table : IsTable t.table
+  pub wide : length t.nodes.keys ≤ length t.table.heads.items
+
+-- each term that waits has room in the table
+abbrev pub HasRoom : Terms → Type 0
+HasRoom t = length t.table.terms.items + length t.waiting.stack.items ≤ 2 * length t.table.heads.items
 
 -- two congruent terms of two classes
 pub record AreToJoin (t : Terms) (a b : ℕ) : Type 0 where
@@ -25,7 +32,7 @@ pub record Goes (old new : Terms) : Type 0 where
 pub record IsSettled (t : Terms) : Type 0 where
   pub kept : IsKept t
   pub unmarked : All (λ mark. mark ≡ false) t.waiting.marks.items
-  pub closed : AreClosed t.nodes.keys t.classes.labels.items t.waiting.marks.items
+  pub current : AreCurrent t.nodes.keys t.classes.labels.items t.waiting.marks.items t.table
 
 -- what stands of a closure: equal labels are equations that follow, and the sides of each equation have one label
 pub record IsClosed (t : Terms) (equations : List (ℕ × ℕ)) : Type 0 where

@@ -4,6 +4,7 @@
 mod classes;
 mod closure;
 mod law;
+mod table;
 mod terms;
 #[cfg(test)]
 mod tests;

@@ -1,12 +1,14 @@
 //! Terms with their classes.
-ghost use Rattle.std.specs.Prelude.{◌≡◌, ◌≢◌, ◌↔◌, ◌⊎◌, ℕ, ◌+◌, ◌<◌, ◌≤◌, true, false, List, [], ◌∷◌, ◌++◌, length, map, Some, Contains, All, IsTrue, IfOk, OnOk, OnErr, MatchOption, slice_get, slice_index, slice_index_or, slice_set, vec_len, vec_capacity};
+ghost use Rattle.std.specs.Prelude.{◌≡◌, ◌≢◌, ◌↔◌, ◌⊎◌, ℕ, ◌+◌, ◌*◌, ◌<◌, ◌≤◌, true, false, List, [], ◌∷◌, ◌++◌, length, map, Some, Contains, All, IsTrue, IfOk, OnOk, OnErr, MatchOption, slice_get, slice_index, slice_index_or, slice_set, vec_len, vec_capacity};
 ghost use Rattle.ur_congruence.specs.declared.terms.TermNode.TheVariants as variant;
-ghost use Rattle.ur_congruence.specs.Labels.{relabelled, labels_of, AreSound, AreCongruent, IsMarked, AreClosed, AreTerms, KeepsMarks, Coarsens};
-ghost use Rattle.ur_congruence.specs.Kept.{IsKept, IsSettled, AreToJoin, Goes, HasArguments, UsersGrow};
+ghost use Rattle.ur_congruence.specs.Labels.{relabelled, labels_of, AreSound, AreCongruent, IsMarked, AreTerms, KeepsMarks, Coarsens};
+ghost use Rattle.ur_congruence.specs.Kept.{IsKept, IsSettled, AreToJoin, Goes, HasArguments, HasRoom, UsersGrow};
 ghost use Rattle.ur_congruence.specs.Rings.{AreRings, AreWaiting, class_count};
+ghost use Rattle.ur_congruence.specs.Table.{AreCurrent, IsAt, IsPlaceOf};
 ghost use Rattle.ur_congruence.specs.Terms.{Follows};
 
 use crate::classes::Classes;
+use crate::table::{Table, place_of};
 use crate::waiting::Waiting;
 use indexmap::IndexSet;
 use std::alloc::Global;
@@ -20,13 +22,14 @@ pub enum TermNode {
     Apply(u32, List<u32>),
 }
 
-/// Terms by number, for each the applications that have it among their arguments, the classes, and the applications
-/// that wait to be compared with those of the same symbol and arguments of the same labels.
+/// Terms by number, for each the applications that have it among their arguments, the classes, the applications by
+/// symbol and labels of arguments, and those that wait to be compared with the others there.
 #[derive(Drop)]
 pub struct Terms {
     pub nodes: IndexSet<TermNode>,
     pub users: Vec<List<u32>>,
     pub classes: Classes,
+    pub table: Table,
     pub waiting: Waiting,
 }
 
@@ -40,6 +43,7 @@ impl Terms {
             nodes: IndexSet::new(alloc),
             users: Vec::new(alloc),
             classes: Classes::new(alloc),
+            table: Table::new(alloc),
             waiting: Waiting::new(alloc),
         }
     }
@@ -69,6 +73,7 @@ impl Terms {
         ensures ok { OnOk result (self.new.nodes.keys ≡ self.old.nodes.keys ++ node ∷ []) }
         ensures err { OnErr result (self.new.nodes.keys ≡ self.old.nodes.keys) }
     {
+        self.widen()?;
         let number = self.nodes.len() as u32;
         self.prepare(&node, number)?;
         self.nodes.insert(node)?;
@@ -76,6 +81,7 @@ impl Terms {
         self.classes.add(number);
         self.waiting.add();
         self.waiting.mark(number);
+        self.make_room();
         self.close();
         Ok(number)
     }
@@ -88,6 +94,7 @@ impl Terms {
         ensures settled { IsSettled self.new }
         ensures labels { self.new.classes.labels.items ≡ self.old.classes.labels.items }
         ensures marks { self.new.waiting.marks.items ≡ self.old.waiting.marks.items }
+        ensures table { self.new.table ≡ self.old.table }
         ensures users_room { OnOk result (vec_len self.new.users < vec_capacity self.new.users) }
         ensures labels_room { OnOk result (vec_len self.new.classes.labels < vec_capacity self.new.classes.labels) }
         ensures next_room { OnOk result (vec_len self.new.classes.next < vec_capacity self.new.classes.next) }
@@ -133,11 +140,13 @@ impl Terms {
         requires right { b < length self.old.nodes.keys }
         requires apart { slice_index self.old.classes.labels.items a ≢ slice_index self.old.classes.labels.items b }
         ensures kept { IsKept self.new }
+        ensures room { HasRoom self.new }
+        ensures heads { length self.new.table.heads.items ≡ length self.old.table.heads.items }
         ensures goes { Goes self.old self.new }
         ensures together { slice_index self.new.classes.labels.items a ≡ slice_index self.new.classes.labels.items b }
         ensures fewer { class_count self.new.classes.sizes.items + 1 ≡ class_count self.old.classes.sizes.items }
         ensures sound { (equations : List (ℕ × ℕ)) → AreSound self.old.nodes.keys equations self.old.classes.labels.items → Follows (record { nodes = self.old.nodes.keys; equations = equations }) a b → AreSound self.old.nodes.keys equations self.new.classes.labels.items }
-        ensures closed { AreClosed self.old.nodes.keys self.old.classes.labels.items self.old.waiting.marks.items → AreClosed self.old.nodes.keys self.new.classes.labels.items self.new.waiting.marks.items }
+        ensures current { AreCurrent self.old.nodes.keys self.old.classes.labels.items self.old.waiting.marks.items self.old.table → AreCurrent self.old.nodes.keys self.new.classes.labels.items self.new.waiting.marks.items self.new.table }
     {
         let left = self.classes.labels[a as usize];
         let right = self.classes.labels[b as usize];
@@ -157,23 +166,78 @@ impl Terms {
         requires lost_is { slice_index self.old.classes.labels.items lost ≡ lost }
         requires other { kept ≢ lost }
         ensures kept { IsKept self.new }
+        ensures room { HasRoom self.new }
         ensures nodes { self.new.nodes.keys ≡ self.old.nodes.keys }
         ensures labels { self.new.classes.labels.items ≡ map (relabelled lost kept) self.old.classes.labels.items }
         ensures fewer { class_count self.new.classes.sizes.items + 1 ≡ class_count self.old.classes.sizes.items }
-        ensures closed { AreClosed self.old.nodes.keys self.old.classes.labels.items self.old.waiting.marks.items → AreClosed self.old.nodes.keys self.new.classes.labels.items self.new.waiting.marks.items }
+        ensures heads { length self.new.table.heads.items ≡ length self.old.table.heads.items }
+        ensures current { AreCurrent self.old.nodes.keys self.old.classes.labels.items self.old.waiting.marks.items self.old.table → AreCurrent self.old.nodes.keys self.new.classes.labels.items self.new.waiting.marks.items self.new.table }
     {
         mark_users(&self.classes, &self.users, lost, &mut self.waiting);
         self.classes.join(kept, lost);
+        self.make_room();
+    }
+
+    /// Empties the table where the applications that wait may find no room in it.
+    fn make_room(&mut self)
+        requires { IsKept self.old }
+        ensures kept { IsKept self.new }
+        ensures room { HasRoom self.new }
+        ensures nodes { self.new.nodes.keys ≡ self.old.nodes.keys }
+        ensures labels { self.new.classes.labels.items ≡ self.old.classes.labels.items }
+        ensures sizes { self.new.classes.sizes.items ≡ self.old.classes.sizes.items }
+        ensures heads { length self.new.table.heads.items ≡ length self.old.table.heads.items }
+        ensures current { AreCurrent self.old.nodes.keys self.old.classes.labels.items self.old.waiting.marks.items self.old.table → AreCurrent self.old.nodes.keys self.new.classes.labels.items self.new.waiting.marks.items self.new.table }
+    {
+        if 2 * self.table.heads.len() < self.table.terms.len() + self.waiting.stack.len() {
+            self.forget();
+        }
+    }
+
+    /// Empties the table; each application waits.
+    fn forget(&mut self)
+        requires { IsKept self.old }
+        ensures kept { IsKept self.new }
+        ensures room { HasRoom self.new }
+        ensures nodes { self.new.nodes.keys ≡ self.old.nodes.keys }
+        ensures labels { self.new.classes.labels.items ≡ self.old.classes.labels.items }
+        ensures sizes { self.new.classes.sizes.items ≡ self.old.classes.sizes.items }
+        ensures heads { length self.new.table.heads.items ≡ length self.old.table.heads.items }
+        ensures current { AreCurrent self.old.nodes.keys self.new.classes.labels.items self.new.waiting.marks.items self.new.table }
+    {
+        self.table.clear();
+        self.waiting.mark_each();
+    }
+
+    /// Room in the table for one term more.
+    fn widen(&mut self) -> Result<(), Memory>
+        requires settled { IsSettled self.old }
+        requires few { length self.old.nodes.keys < 65536 }
+        ensures settled { IsSettled self.new }
+        ensures goes { Goes self.old self.new }
+        ensures same_length { length self.new.classes.labels.items ≡ length self.old.classes.labels.items }
+        ensures sound { (equations : List (ℕ × ℕ)) → AreSound self.old.nodes.keys equations self.old.classes.labels.items → AreSound self.old.nodes.keys equations self.new.classes.labels.items }
+        ensures wide { OnOk result (length self.new.nodes.keys < length self.new.table.heads.items) }
+    {
+        if self.nodes.len() < self.table.heads.len() {
+            return Ok(());
+        }
+        self.table.widen(2 * self.nodes.len() + 16)?;
+        self.forget();
+        self.close();
+        Ok(())
     }
 
     /// Compares each application that waits, and joins what congruence joins, until none waits.
     pub fn close(&mut self)
         requires kept { IsKept self.old }
-        requires closed { AreClosed self.old.nodes.keys self.old.classes.labels.items self.old.waiting.marks.items }
+        requires room { HasRoom self.old }
+        requires current { AreCurrent self.old.nodes.keys self.old.classes.labels.items self.old.waiting.marks.items self.old.table }
         ensures kept { IsKept self.new }
+        ensures heads { length self.new.table.heads.items ≡ length self.old.table.heads.items }
         ensures goes { Goes self.old self.new }
         ensures unmarked { All (λ mark. mark ≡ false) self.new.waiting.marks.items }
-        ensures closed { AreClosed self.old.nodes.keys self.new.classes.labels.items self.new.waiting.marks.items }
+        ensures current { AreCurrent self.old.nodes.keys self.new.classes.labels.items self.new.waiting.marks.items self.new.table }
         ensures sound { (equations : List (ℕ × ℕ)) → AreSound self.old.nodes.keys equations self.old.classes.labels.items → AreSound self.old.nodes.keys equations self.new.classes.labels.items }
     {
         while let Some(term) = self.waiting.take() {
@@ -184,74 +248,111 @@ impl Terms {
     /// Joins a term that was taken with one that is congruent to it, if there is one of another class; then it waits again.
     fn compare(&mut self, term: u32)
         requires kept { IsKept self.old }
+        requires room { length self.old.table.terms.items + length self.old.waiting.stack.items < 2 * length self.old.table.heads.items }
         requires term_in { term < length self.old.nodes.keys }
-        requires closed { AreClosed self.old.nodes.keys self.old.classes.labels.items (slice_set self.old.waiting.marks.items term true) }
+        requires current { AreCurrent self.old.nodes.keys self.old.classes.labels.items (slice_set self.old.waiting.marks.items term true) self.old.table }
         ensures kept { IsKept self.new }
+        ensures room { HasRoom self.new }
+        ensures heads { length self.new.table.heads.items ≡ length self.old.table.heads.items }
         ensures goes { Goes self.old self.new }
-        ensures closed { AreClosed self.old.nodes.keys self.new.classes.labels.items self.new.waiting.marks.items }
+        ensures current { AreCurrent self.old.nodes.keys self.new.classes.labels.items self.new.waiting.marks.items self.new.table }
         ensures sound { (equations : List (ℕ × ℕ)) → AreSound self.old.nodes.keys equations self.old.classes.labels.items → AreSound self.old.nodes.keys equations self.new.classes.labels.items }
         ensures less { (class_count self.new.classes.sizes.items + 1 ≡ class_count self.old.classes.sizes.items) ⊎ ((class_count self.new.classes.sizes.items ≡ class_count self.old.classes.sizes.items) × (self.new.waiting.marks.items ≡ self.old.waiting.marks.items)) }
     {
-        if let Some(other) = self.congruent(term) {
-            self.waiting.mark(term);
-            self.join(term, other);
+        match self.place(term) {
+            Some(place) => match self.rival(term, place) {
+                Some(other) => {
+                    self.waiting.mark(term);
+                    self.join(term, other);
+                }
+                None => self.note(term, place),
+            },
+            None => {}
         }
     }
 
-    /// A term of another class that congruence joins with this one.
-    fn congruent(&self, term: u32) -> Option<u32>
-        requires kept { IsKept self.now }
-        ensures { MatchOption result ((other : ℕ) → AreCongruent self.now.nodes.keys self.now.classes.labels.items term other → slice_index self.now.classes.labels.items term ≡ slice_index self.now.classes.labels.items other) (λ other. AreToJoin self.now term other) }
-    {
-        match self.first_argument(term) {
-            Some(argument) => self.congruent_in_class(term, self.classes.labels[argument as usize]),
-            None => None,
-        }
-    }
-
-    /// The first argument of an application.
-    fn first_argument(&self, term: u32) -> Option<u32>
-        ensures { MatchOption result ((f : ℕ) (args : List ℕ) → slice_get self.now.nodes.keys term ≡ Some (variant.Apply f args) → args ≡ []) (λ first. (f : ℕ) × (rest : List ℕ) × (slice_get self.now.nodes.keys term ≡ Some (variant.Apply f (first ∷ rest)))) }
+    /// The place of an application in the table.
+    fn place(&self, term: u32) -> Option<usize>
+        requires { IsKept self.now }
+        ensures { MatchOption result ((f : ℕ) (args : List ℕ) → slice_get self.now.nodes.keys term ≢ Some (variant.Apply f args)) (λ place. IsPlaceOf self.now.nodes.keys self.now.classes.labels.items (length self.now.table.heads.items) term place) }
     {
         match self.nodes.get_index(term as usize) {
-            Some(TermNode::Apply(_, arguments)) => match arguments.get(0) {
-                Some(first) => Some(*first),
-                None => None,
-            },
+            Some(TermNode::Apply(symbol, arguments)) => Some(place_of(
+                &self.classes.labels,
+                self.table.heads.len(),
+                *symbol,
+                arguments.as_slice(),
+            )),
             _ => None,
         }
     }
 
-    /// The same, among the applications that have a member of the class among their arguments.
-    fn congruent_in_class(&self, term: u32, label: u32) -> Option<u32>
+    /// A term of another class at this place that congruence joins with this one.
+    fn rival(&self, term: u32, place: usize) -> Option<u32>
         requires kept { IsKept self.now }
-        requires label_in { label < length self.now.nodes.keys }
-        requires label_is { slice_index self.now.classes.labels.items label ≡ label }
-        ensures { MatchOption result ((t other : ℕ) → t < length self.now.nodes.keys → slice_index self.now.classes.labels.items t ≡ label → Contains (slice_index_or self.now.users.items t []) other → AreCongruent self.now.nodes.keys self.now.classes.labels.items term other → slice_index self.now.classes.labels.items term ≡ slice_index self.now.classes.labels.items other) (λ other. AreToJoin self.now term other) }
+        requires within { place < length self.now.table.heads.items }
+        ensures { MatchOption result ((other : ℕ) → IsAt self.now.table place other → AreCongruent self.now.nodes.keys self.now.classes.labels.items term other → slice_index self.now.classes.labels.items term ≡ slice_index self.now.classes.labels.items other) (λ other. AreToJoin self.now term other) }
     {
-        let mut member = label;
-        for step in 0..self.classes.sizes[label as usize] {
-            if let Some(other) = self.congruent_at(term, member) {
+        let mut cell = self.table.heads[place];
+        while cell != 0 {
+            let other = self.table.terms[cell as usize - 1];
+            if self.is_joined_with(term, other) {
                 return Some(other);
             }
-            member = self.classes.next[member as usize];
+            cell = self.table.next[cell as usize - 1];
         }
         None
     }
 
-    /// The same, among the applications that have this argument.
-    fn congruent_at(&self, term: u32, argument: u32) -> Option<u32>
-        requires kept { IsKept self.now }
-        requires argument_in { argument < length self.now.nodes.keys }
-        ensures { MatchOption result ((other : ℕ) → Contains (slice_index_or self.now.users.items argument []) other → AreCongruent self.now.nodes.keys self.now.classes.labels.items term other → slice_index self.now.classes.labels.items term ≡ slice_index self.now.classes.labels.items other) (λ other. AreToJoin self.now term other) }
+    /// Puts a term into the table at this place, unless one that is congruent to it is there.
+    fn note(&mut self, term: u32, place: usize)
+        requires kept { IsKept self.old }
+        requires room { length self.old.table.terms.items + length self.old.waiting.stack.items < 2 * length self.old.table.heads.items }
+        requires place { IsPlaceOf self.old.nodes.keys self.old.classes.labels.items (length self.old.table.heads.items) term place }
+        requires no_rival { (other : ℕ) → IsAt self.old.table place other → AreCongruent self.old.nodes.keys self.old.classes.labels.items term other → slice_index self.old.classes.labels.items term ≡ slice_index self.old.classes.labels.items other }
+        requires current { AreCurrent self.old.nodes.keys self.old.classes.labels.items (slice_set self.old.waiting.marks.items term true) self.old.table }
+        ensures kept { IsKept self.new }
+        ensures room { HasRoom self.new }
+        ensures heads { length self.new.table.heads.items ≡ length self.old.table.heads.items }
+        ensures nodes { self.new.nodes.keys ≡ self.old.nodes.keys }
+        ensures classes { self.new.classes ≡ self.old.classes }
+        ensures waiting { self.new.waiting ≡ self.old.waiting }
+        ensures current { AreCurrent self.old.nodes.keys self.old.classes.labels.items self.old.waiting.marks.items self.new.table }
     {
-        let users = self.users[argument as usize].as_slice();
-        for other in users {
-            if self.is_joined_with(term, *other) {
-                return Some(*other);
-            }
+        if !self.has_alike(term, place) {
+            self.table.add(place, term);
         }
-        None
+    }
+
+    /// Whether a term at this place is congruent to this one.
+    fn has_alike(&self, term: u32, place: usize) -> bool
+        requires kept { IsKept self.now }
+        requires within { place < length self.now.table.heads.items }
+        ensures { IsTrue result ↔ ((other : ℕ) × IsAt self.now.table place other × AreCongruent self.now.nodes.keys self.now.classes.labels.items term other) }
+    {
+        let mut cell = self.table.heads[place];
+        while cell != 0 {
+            if self.are_congruent(term, self.table.terms[cell as usize - 1]) {
+                return true;
+            }
+            cell = self.table.next[cell as usize - 1];
+        }
+        false
+    }
+
+    fn are_congruent(&self, term: u32, other: u32) -> bool
+        requires kept { IsKept self.now }
+        ensures { IsTrue result ↔ AreCongruent self.now.nodes.keys self.now.classes.labels.items term other }
+    {
+        match (
+            self.nodes.get_index(term as usize),
+            self.nodes.get_index(other as usize),
+        ) {
+            (Some(TermNode::Apply(f, left)), Some(TermNode::Apply(g, right))) => {
+                f == g && have_same_labels(&self.classes.labels, left.as_slice(), right.as_slice())
+            }
+            _ => false,
+        }
     }
 
     /// Whether congruence joins the two terms, which are of two classes.
@@ -259,17 +360,8 @@ impl Terms {
         requires kept { IsKept self.now }
         ensures { IsTrue result ↔ AreToJoin self.now term other }
     {
-        match (
-            self.nodes.get_index(term as usize),
-            self.nodes.get_index(other as usize),
-        ) {
-            (Some(TermNode::Apply(f, left)), Some(TermNode::Apply(g, right))) => {
-                f == g
-                    && self.classes.labels[term as usize] != self.classes.labels[other as usize]
-                    && have_same_labels(&self.classes.labels, left.as_slice(), right.as_slice())
-            }
-            _ => false,
-        }
+        self.are_congruent(term, other)
+            && self.classes.labels[term as usize] != self.classes.labels[other as usize]
     }
 }
 

@@ -2,14 +2,14 @@ use Rattle.std.proofs.Common.{length, ap, sym, ◌∙◌}
 use Rattle.ur_congruence.proofs.Closing.{goes_on}
 use Rattle.ur_congruence.proofs.terms.Terms.equate.Goals as goal
 
-pub close-requires-clause-closed : goal.close-requires-clause-closed
-close-requires-clause-closed c = rw c.join.ensures.goes.nodes (c.join.ensures.closed c.requires.settled.closed)
+pub close-requires-clause-current : goal.close-requires-clause-current
+close-requires-clause-current c = rw c.join.ensures.goes.nodes (c.join.ensures.current c.requires.settled.current)
 
 pub returns-then-index-clause-settled : goal.returns-then-index-clause-settled
 returns-then-index-clause-settled c = record {
   kept = c.close.ensures.kept;
   unmarked = c.close.ensures.unmarked;
-  closed = rw c.close.ensures.goes.nodes c.close.ensures.closed;
+  current = rw c.close.ensures.goes.nodes c.close.ensures.current;
 }
 
 pub returns-then-index-clause-goes : goal.returns-then-index-clause-goes
