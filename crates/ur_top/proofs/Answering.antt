@@ -6,7 +6,7 @@ use Rattle.std.proofs.lemmas.List.{take-append-drop, length-take-le}
 use Rattle.ur_base.specs.Told.{WhereTold, Tells}
 use Rattle.ur_io.proofs.Pieces.{onto_wire}
 use Rattle.ur_io.specs.Fronts.{IsFront}
-use Rattle.ur_io.specs.Traffic.{Traffic, onto_last, after_read, after_write}
+use Rattle.ur_io.specs.Traffic.{Traffic, onto_last, after_read}
 use Rattle.ur_io.specs.declared.session.Mark.{Mark}
 use Rattle.ur_io.specs.declared.session.Mark.TheVariants as mark
 use Rattle.ur_io.specs.declared.session.SessionEnd.{SessionEnd}
@@ -16,7 +16,7 @@ use Rattle.ur_top.specs.Ends.{Writes, WritesReply, why_after, reply_to, no_memor
 use Rattle.ur_top.specs.Headline.{IsSession, IsSessionOn}
 use Rattle.ur_top.specs.Http.{answer, item_of, items_of, path_asked, request_bytes, after_path, is_path}
 use Rattle.ur_top.specs.Inputs.{Takes, HasGiven}
-use Rattle.ur_top.specs.Sessions.{Served, Answer}
+use Rattle.ur_top.specs.Sessions.{Served}
 use Rattle.ur_top.specs.declared.program.Program.{Program}
 
 -- ---- the input that is looked at

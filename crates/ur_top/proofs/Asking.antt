@@ -1,6 +1,8 @@
 -- Which bytes ask for a path.
-use Rattle.std.proofs.Common.{◌≡◌, ℕ, ◌-◌, ◌+◌, ◌≤◌, Bool, true, false, ◌&&◌, List, [], ◌∷◌, Option, Some, None, ◌++◌, length, take, drop, get_or, codes, cond, refl, ap, sym, ◌∙◌, arith, nat_le, bytes_eq}
+use Rattle.std.proofs.Common.{◌≡◌, ℕ, ◌-◌, ◌≤◌, ◌<◌, ◌==◌, IsUtf8, IsAscii, subst, Bool, true, false, ◌&&◌, List, [], ◌∷◌, Some, None, ◌++◌, length, take, drop, get_or, cond, refl, ap, sym, ◌∙◌, arith, nat_le, bytes_eq}
 use Rattle.std.specs.List.{list_all}
+use Rattle.std.proofs.lemmas.Str.{IsUtf8-nil, IsUtf8-from_ascii}
+use Rattle.std.proofs.lemmas.Str.Ascii.{IsAscii-cons}
 use Rattle.std.proofs.lemmas.Bool.{false≢true}
 use Rattle.std.proofs.lemmas.Bool.Decides.{nat_tests}
 use Rattle.std.proofs.lemmas.Slice.Eq.{bytes_eq-Decides}
@@ -64,3 +66,30 @@ asked_none bytes h =
 pub is_path_after : (path : List ℕ) → get_or path 0 0 ≡ 47 → 1 ≤ length path → is_path path ≡ list_all is_path_byte (drop 1 path)
 is_path_after [] begins some = absurd (omega arith)
 is_path_after (b ∷ bytes) begins some = rw begins refl
+
+-- ---- paths as text
+
+path_byte_small : (b : ℕ) → is_path_byte b ≡ true → b < 128
+path_byte_small b h = grind (arith, nat_tests)
+
+path_bytes_text : (bytes : List ℕ) → list_all is_path_byte bytes ≡ true → IsAscii bytes
+path_bytes_text [] h = λ i. omega arith
+path_bytes_text (b ∷ bytes) h = let both = and_true (is_path_byte b) (list_all is_path_byte bytes) h in IsAscii-cons b bytes (path_byte_small b both.0) (path_bytes_text bytes both.1)
+
+path_text : (path : List ℕ) → is_path path ≡ true → IsUtf8 path
+path_text [] h = IsUtf8-nil
+path_text (b ∷ bytes) h =
+    let both = and_true (b == 47) (list_all is_path_byte bytes) h in
+    let slash : b < 128 = grind (arith, nat_tests) in
+    IsUtf8-from_ascii (b ∷ bytes) (IsAscii-cons b bytes slash (path_bytes_text bytes both.1))
+
+asked_some : (b : Bool) (path found : List ℕ) → cond b (Some path) None ≡ Some found → (b ≡ true) × (path ≡ found)
+asked_some true path found e = (refl, cc)
+asked_some false path found e = absurd (cc)
+
+-- a path that is asked for is text
+pub asked_text : (bytes path : List ℕ) → path_asked bytes ≡ Some path → IsUtf8 path
+asked_text bytes path e =
+    let found = asked_some (asks bytes (path_in bytes)) (path_in bytes) path (sym (asked_by bytes) ∙ e) in
+    let is : is_path (path_in bytes) ≡ true = (and_true _ _ found.0).1 in
+    path_text path (subst (λ p. is_path p ≡ true) found.1 is)

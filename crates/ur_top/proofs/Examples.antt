@@ -1,12 +1,20 @@
 -- The program hello, and what is answered to its requests.
-use Rattle.std.proofs.Common.{◌≡◌, ℕ, pos, negsuc, ◌-◌, ◌^◌, true, false, List, [], ◌∷◌, ◌++◌, length, Some, None, codes, refl}
+use Rattle.std.proofs.Common.{◌≡◌, ℕ, negsuc, false, List, [], ◌∷◌, ◌++◌, length, Some, None, codes, refl}
 use Rattle.std.specs.Fmt.{digits}
 use Rattle.ur_page.specs.declared.module.Function.{Function}
 use Rattle.ur_page.specs.declared.module.Part.{Text, Element', Show, more_of-Part, end_of-Part}
 use Rattle.ur_top.specs.declared.program.Program.{Program}
-use Rattle.ur_top.specs.Bytes.{crlf, int_of}
-use Rattle.ur_top.specs.Calls.{route, path}
+use Rattle.std.specs.Str.{is_utf8, chars}
+use lib.Utf8.{encode as utf8_encode}
+use denote.Hole.Carrier as Carrier
+use Rattle.percent_encoding.specs.Percent.{percent_decode}
+use Rattle.ur_values.specs.declared.value.Node.TheBlock as block
+use Rattle.ur_values.specs.declared.value.Value.TheVariants as v
+use Rattle.ur_tags.specs.Segments.{int_of}
+use Rattle.ur_tags.specs.Paths.{path, route_path}
+use Rattle.ur_top.specs.Bytes.{crlf}
 use Rattle.ur_top.specs.Http.{path_asked, answer, status_page, request}
+use Rattle.ur_top.specs.Program.{handlers_of}
 
 abbrev pub main : Function
 main = record {
@@ -31,15 +39,15 @@ asks : path_asked (codes "GET /Hello/main/3 HTTP/1.1" ++ crlf ++ codes "Host: lo
 unfolding path_asked
 asks = refl
 
-answers : (answer hello (request (codes "/Hello/main/3")) false).bytes ≡ answer_3
-unfolding int_of digits
+pub answers : (answer hello (request (codes "/Hello/main/3")) false).bytes ≡ answer_3
+unfolding int_of digits percent_decode is_utf8 chars utf8_encode block.hidden-the_row-Node-0 Carrier.hidden
 answers = refl
 
-routes_nowhere : route hello (codes "/Hello/main/x") ≡ None
-unfolding int_of digits
+routes_nowhere : route_path (handlers_of hello) (codes "/Hello/main/x") ≡ None
+unfolding int_of digits percent_decode is_utf8 chars utf8_encode
 routes_nowhere = refl
 
-path_of_call : path hello (record { function = main; args = negsuc 9 ∷ [] }) ≡ codes "/Hello/main/-10"
+path_of_call : path (handlers_of hello) (record { route = 0; args = v.Int (negsuc 9) ∷ [] }) ≡ codes "/Hello/main/-10"
 unfolding digits
 path_of_call = refl
 
@@ -50,25 +58,3 @@ not_found_len = refl
 no_memory_len : length (status_page 503) ≡ 116
 unfolding digits
 no_memory_len = refl
-
--- only one spelling of each int reads, and the least int does
-
-least_int : int_of (codes "-9223372036854775808") ≡ Some (negsuc (2 ^ 63 - 1))
-unfolding int_of digits
-least_int = refl
-
-too_great : int_of (codes "9223372036854775808") ≡ None
-unfolding int_of digits
-too_great = refl
-
-leading_zero : int_of (codes "01") ≡ None
-unfolding int_of digits
-leading_zero = refl
-
-plus_sign : int_of (codes "+1") ≡ None
-unfolding int_of digits
-plus_sign = refl
-
-negative_zero : int_of (codes "-0") ≡ None
-unfolding int_of digits
-negative_zero = refl

@@ -1,5 +1,5 @@
 -- What was fetched says what the files are, and the files are at most one program.
-use Rattle.std.proofs.Common.{◌≡◌, ℕ, ◌≤◌, ◌<◌, Bool, true, false, nat_le, cond, List, [], length, Option, Some, None, Result, Err, inl, inr, refl, sym, ap, subst, ◌∙◌, arith, codes}
+use Rattle.std.proofs.Common.{◌≡◌, ℕ, ◌≤◌, Bool, true, false, nat_le, cond, List, length, Option, Some, None, Err, inl, inr, refl, sym, ap, subst, ◌∙◌}
 use Rattle.std.proofs.lemmas.Bool.{leb-true, le-leb}
 use Rattle.ur_base.specs.Told.{WhereTold}
 use Rattle.ur_base.specs.declared.refusal.Refusal.{Refusal}

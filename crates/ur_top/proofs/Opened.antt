@@ -1,6 +1,6 @@
 -- One connection that is served.
-use Rattle.std.proofs.Common.{◌≡◌, ℕ, Bool, true, List, [], ◌∷◌, ◌++◌, length, drop, Option, Some, None, refl, sym, ap, subst, ◌∙◌}
-use Rattle.ur_base.specs.Told.{WhereTold, Tells}
+use Rattle.std.proofs.Common.{◌≡◌, ℕ, true, List, [], ◌∷◌, ◌++◌, drop, Option, Some, None, refl, sym, ap, subst, ◌∙◌}
+use Rattle.ur_base.specs.Told.{WhereTold}
 use Rattle.ur_io.specs.Files.{Files}
 use Rattle.ur_io.specs.Traffic.{Traffic, Opens, onto_last, opened}
 use Rattle.ur_io.specs.declared.session.SessionEnd.{SessionEnd}

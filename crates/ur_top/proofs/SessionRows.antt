@@ -1,18 +1,17 @@
 -- Whole sessions of the program hello.
-use Rattle.std.specs.Prelude.{true, false, [], ◌∷◌, codes, refl}
+use Rattle.std.proofs.Common.{true, false, [], ◌∷◌, codes, refl, ap, sym}
 use Rattle.std.specs.Fmt.{digits}
 use Rattle.ur_io.specs.declared.session.Mark.TheVariants as mark
 use Rattle.ur_io.specs.declared.session.Why.TheVariants.{End, Closed}
-use Rattle.ur_top.specs.Bytes.{int_of}
 use Rattle.ur_top.specs.Http.{path_asked, request_bytes, status_answer, request, bad}
 use Rattle.ur_top.specs.Sessions.{Served}
 use Rattle.ur_top.specs.Headline.{RunsProgram}
-use Rattle.ur_top.proofs.Examples.{hello, answer_3}
+use Rattle.ur_top.proofs.Examples.{hello, answer_3, answers}
 
 -- one request on one connection, answered 200 and kept, and then the input's end
 one_request : RunsProgram hello (request_bytes (codes "/Hello/main/3") ∷ [])
     (record { marks = mark.Done ∷ []; why = End } ∷ []) (answer_3 ∷ [])
-unfolding int_of digits path_asked
+unfolding path_asked
 one_request = (
   tt,
   record {
@@ -22,7 +21,7 @@ one_request = (
     answers = answer_3;
     closed = false;
     left = [];
-    served = Served.done 999 tt _ [] (record { bytes = answer_3; closes = false; store = tt }) refl;
+    served = Served.done 999 tt _ [] (record { bytes = answer_3; closes = false; store = tt }) (ap (λ bytes. record { bytes = bytes; closes = false; store = tt }) (sym answers));
     given_all = (refl, refl);
     all_marked = λ _. refl;
   },

@@ -1,5 +1,5 @@
 -- What the end of a run says of its status.
-use Rattle.std.proofs.Common.{◌≡◌, ◌≢◌, ◌⊎◌, inl, inr, ℕ, ◌<◌, suc, zero, min, Bool, false, List, [], ◌∷◌, ◌++◌, length, Option, Some, None, Contains, Any, refl, sym, ap, subst, ◌∙◌, arith, lit<, codes}
+use Rattle.std.proofs.Common.{◌≡◌, ◌≢◌, ◌⊎◌, inl, inr, ℕ, suc, zero, min, false, List, [], ◌∷◌, ◌++◌, length, Option, Some, None, Contains, Any, refl, sym, ap, subst, ◌∙◌, arith, codes}
 use Rattle.ur_base.specs.Counts.{Rose}
 use Rattle.ur_base.specs.Told.{WhereTold}
 use Rattle.ur_base.specs.declared.refusal.Refusal.{Refusal}

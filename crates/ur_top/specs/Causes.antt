@@ -1,8 +1,7 @@
 -- What is so at each end of a run, and what is printed then.
-use Rattle.std.specs.Prelude.{◌≡◌, ◌⊎◌, ◌≢◌, ℕ, ◌≤◌, min, Bool, false, List, [], ◌∷◌, ◌++◌, length, Option, Some, None, Any, All, codes}
+use Rattle.std.specs.Prelude.{◌≡◌, ◌⊎◌, ℕ, min, Bool, false, List, [], ◌∷◌, ◌++◌, length, Option, Some, None, Any, codes}
 use Rattle.ur_base.specs.Counts.{Rose}
 use Rattle.ur_base.specs.Told.{WhereTold}
-use Rattle.ur_base.specs.declared.refusal.Refusal.{Refusal}
 use Rattle.ur_io.specs.Files.{Files}
 use Rattle.ur_io.specs.Fronts.{IsFront}
 use Rattle.ur_io.specs.Traffic.{Traffic}

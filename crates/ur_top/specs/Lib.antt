@@ -1,10 +1,8 @@
 pub mod Accepts
 pub mod Bytes
-pub mod Calls
 pub mod Causes
 pub mod Ends
 pub mod Headline
-pub mod Html
 pub mod Http
 pub mod Inputs
 pub mod Links
@@ -13,6 +11,5 @@ pub mod Prints
 pub mod Program
 pub mod Projects
 pub mod Reports
-pub mod Routed
 pub mod Sessions
 pub mod Words

@@ -1,16 +1,20 @@
 //! Answers.
-ghost use Rattle.std.specs.Prelude.{◌≡◌, ◌++◌, [], true, IfOk, if◌then◌else◌, codes, string_bytes};
+ghost use Rattle.std.specs.Prelude.{◌≡◌, ◌++◌, [], true, IfOk, IsUtf8, if◌then◌else◌, codes, string_bytes};
 ghost use Rattle.ur_top.specs.Bytes.{crlf};
 ghost use Rattle.ur_top.specs.Http.{phrase, status_page, item_of, path_asked, answer_call};
 ghost use Rattle.ur_top.specs.Http.{respond as response, status_answer as answer_of_status, answer as answer_of};
-ghost use Rattle.ur_top.specs.Calls.{route as route_of};
+ghost use Rattle.ur_top.specs.Http.{status_text as text_of_status};
+ghost use Rattle.ur_top.specs.Program.{handlers_of};
+ghost use Rattle.ur_tags.specs.Paths.{route_path};
 
 use crate::Program;
-use crate::pages::page;
+use crate::handlers::handlers;
+use crate::pages::page_at;
 use crate::requests::asked;
-use crate::routes::route;
 use std::alloc::Global;
+use std::str;
 use ur_base::{Bytes, List, Memory};
+use ur_tags::{route, show, show_text};
 
 /// The bytes of an answer, and whether it closes its connection.
 #[derive(Debug, Drop)]
@@ -43,15 +47,18 @@ pub fn answer(
 
 /// The answer to a request for the path.
 fn answer_path(alloc: Global, program: &Program, path: &[u8], closes: bool) -> Result<Bytes, Memory>
-    ensures { IfOk result (λ bytes. bytes ≡ answer_call closes (route_of program.now path.now)) }
+    requires { IsUtf8 path.now }
+    ensures { IfOk result (λ bytes. bytes ≡ answer_call program.now closes (route_path (handlers_of program.now) path.now)) }
 {
-    let Some(call) = route(alloc, program, path)? else {
-        return status_answer(alloc, 404, closes);
-    };
-    let Some(function) = program.functions.get(call.index) else {
+    let Ok(path) = str::from_utf8(path) else {
         unreachable!()
     };
-    let body = page(alloc, function, call.args.as_slice())?;
+    let handlers = handlers(alloc, program)?;
+    let Some(call) = route(alloc, &handlers, path)? else {
+        return status_answer(alloc, 404, closes);
+    };
+    let page = page_at(alloc, program, &call)?;
+    let body = show(alloc, &handlers, &page)?;
     respond(alloc, 200, closes, body.as_slice())
 }
 
@@ -82,16 +89,22 @@ pub fn status_answer(alloc: Global, status: u16, closes: bool) -> Result<Bytes, 
     ensures { IfOk result (λ bytes. bytes ≡ answer_of_status status closes) }
 {
     let page = status_page(alloc, status)?;
-    respond(alloc, status, closes, page.as_bytes())
+    respond(alloc, status, closes, page.as_slice())
 }
 
-fn status_page(alloc: Global, status: u16) -> Result<String, Memory>
-    ensures { IfOk result (λ page. string_bytes page ≡ status_page status) }
+fn status_page(alloc: Global, status: u16) -> Result<Bytes, Memory>
+    ensures { IfOk result (λ page. page ≡ status_page status) }
+{
+    let text = status_text(alloc, status)?;
+    show_text(alloc, text.as_bytes(), text.as_bytes())
+}
+
+/// The status as a number and its phrase.
+fn status_text(alloc: Global, status: u16) -> Result<String, Memory>
+    ensures { IfOk result (λ text. string_bytes text ≡ text_of_status status) }
 {
     let phrase = phrase(status);
-    Ok(format!(in alloc;
-        "<!DOCTYPE html>\n<html><head><title>{status} {phrase}</title></head><body>{status} {phrase}</body></html>"
-    )?)
+    Ok(format!(in alloc; "{status} {phrase}")?)
 }
 
 fn phrase(status: u16) -> &'static str

@@ -3,6 +3,7 @@
 
 mod answers;
 mod files;
+mod handlers;
 mod input;
 mod links;
 mod loading;
@@ -12,7 +13,6 @@ mod program;
 mod reporting;
 mod reports;
 mod requests;
-mod routes;
 mod running;
 mod serving;
 mod sessions;

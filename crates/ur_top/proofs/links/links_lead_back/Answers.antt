@@ -1,5 +1,5 @@
--- The path is cut at its slashes, and each piece is read back.
-use Rattle.ur_top.proofs.Linking.{leads_back}
+-- The routes of a program with plain names are routes.
+use Rattle.ur_top.proofs.Leading.{leads_back}
 use Rattle.ur_top.proofs.links.links_lead_back.Goals as goal
 
 pub returns : goal.returns

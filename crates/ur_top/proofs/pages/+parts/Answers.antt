@@ -1,31 +1,23 @@
--- A part is shown, and then what follows it.
-use Rattle.std.proofs.Common.{◌≡◌, [], ◌∷◌, ◌++◌, ◌+◌, drop, get_or, ap, sym, ◌∙◌, arith, rules}
-use mathlib.Core.List.{append_assoc}
-use Rattle.ur_top.proofs.Markup.{element_is, shown_more}
-use Rattle.ur_top.specs.Html.{show, nothing, tagged}
-use Rattle.ur_top.specs.Program.{argument, markup, part_markup}
+-- The node of an element is that of its word and of the parts that it holds; one part more makes one node more.
+use Rattle.std.proofs.Common.{◌≡◌, [], ◌∷◌, ◌++◌, ap, ap₂, sym, ◌∙◌, get_or, arith, rules}
+use Rattle.std.proofs.lemmas.List.{map_more}
+use Rattle.ur_values.specs.declared.value.Node.TheVariants as n
+use Rattle.ur_top.specs.Program.{argument, tag_of, node_of, nodes_of}
+use Rattle.ur_top.proofs.Parts.{element_is}
 use Rattle.ur_top.proofs.pages.+parts.Goals as goal
 
-pub push_part-returns-in_ok-push_all-in-Element-2 : goal.push_part-returns-in_ok-push_all-in-Element-2
-push_part-returns-in_ok-push_all-in-Element-2 t c =
-    let args = argument c.args.call.now.params.now c.args.call.now.args.now in
-    let tag = c.in-Element.tag in
-    let held = c.in-Element.held in
-    let opened : c.push_all.new.out ≡ c.args.out.now ++ (60 ∷ (c.as_slice-tag.result.now ++ (62 ∷ []))) = c.in_ok-push_all-in-Element.ensures in
-    let filled : c.push_parts.new.out ≡ c.push_all.new.out ++ show (markup args c.as_slice-in-Element.result.now) = c.in_ok-push_parts-in-Element.ensures in
-    let closed : c.push_all-in-Element.new.out ≡ c.push_parts.new.out ++ (60 ∷ 47 ∷ (c.as_slice-tag.result.now ++ (62 ∷ []))) = c.in_ok-push_all-in-Element-2.ensures in
-    let is : show (part_markup args c.args.part.now nothing) ≡ tagged tag (show (markup args held)) ++ [] =
-    ap (λ p. show (part_markup args p nothing)) c.in-Element.is ∙ ap show (element_is args tag held nothing) in
-    let all : c.push_all-in-Element.new.out ≡ c.args.out.now ++ (tagged tag (show (markup args held)) ++ []) =
-    simp (append_assoc, closed, filled, opened, c.as_slice-tag.ensures, c.as_slice-in-Element.ensures) in
-    all ∙ ap (λ s. c.args.out.now ++ s) (sym is)
+pub node-returns-in_ok-inner-in-Element : goal.node-returns-in_ok-inner-in-Element
+node-returns-in_ok-inner-in-Element t c =
+    let args = argument c.args.called.now.params.now c.args.called.now.args.now in
+    let tag : c.tag_of.result ≡ tag_of c.in-Element.word = c.tag_of.ensures ∙ ap tag_of c.as_slice-in-Element-2.ensures in
+    let inner : c.in_ok-inner-in-Element.inner ≡ nodes_of args c.in-Element.held = c.in_ok-inner-in-Element.ensures ∙ ap (nodes_of args) c.as_slice-in-Element.ensures in
+    ap₂ n.Element tag inner ∙ sym (ap (node_of args) c.in-Element.is ∙ element_is args c.in-Element.word c.in-Element.held)
 
-pub push_parts-loop-part-preserved : goal.push_parts-loop-part-preserved
-push_parts-loop-part-preserved t c =
-    let args = argument c.args.call.now.params.now c.args.call.now.args.now in
+pub nodes-loop-part-preserved : goal.nodes-loop-part-preserved
+nodes-loop-part-preserved t c =
+    let args = argument c.args.called.now.params.now c.args.called.now.args.now in
     let part = c.part-item.result in
     let at : part ≡ get_or c.args.parts.now c.loop-part.part-index part = search rules in
-    let more = shown_more args c.args.parts.now c.loop-part.part-index part (omega arith) at in
-    let pushed : c.push_part.new.out ≡ c.loop-part.out ++ show (part_markup args part nothing) = c.in_ok-push_part.ensures in
-    ap (λ o. o ++ show (markup args (drop (c.loop-part.part-index + 1) c.args.parts.now))) pushed ∙ append_assoc c.loop-part.out _ _
-    ∙ ap (λ s. c.loop-part.out ++ s) (sym more) ∙ c.loop-part.invariant
+    let made : c.in_ok-node.field-0 ≡ node_of args (get_or c.args.parts.now c.loop-part.part-index part) = c.in_ok-node.ensures ∙ ap (node_of args) at in
+    c.in_ok-push.ensures.ok ∙ ap₂ (λ nodes node. nodes ++ node ∷ []) c.loop-part.invariant made
+    ∙ sym (map_more (node_of args) c.args.parts.now c.loop-part.part-index part (omega arith))

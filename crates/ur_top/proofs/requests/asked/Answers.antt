@@ -2,7 +2,7 @@
 use Rattle.std.proofs.Common.{◌≡◌, ◌++◌, codes, Some, None, sym, ap, ◌∙◌, arith}
 use Rattle.std.proofs.lemmas.Slice.Eq.{strip_prefix_is, strip_suffix_is}
 use Rattle.std.proofs.lemmas.Bool.Decides.{Decides-eqb}
-use Rattle.ur_top.specs.Http.{after_path, request_bytes}
+use Rattle.ur_top.specs.Http.{after_path}
 use Rattle.ur_top.proofs.Asking.{asked_yes, asked_not_path, asked_none}
 use Rattle.ur_top.proofs.requests.asked.Goals as goal
 

@@ -1,4 +1,4 @@
-use Rattle.std.proofs.Common.{inl, inr, Option, Some, None, ◌≡◌, List, [], ◌∷◌, ℕ, Bool, subst, sym, ◌∙◌}
+use Rattle.std.proofs.Common.{inl, inr, Option, Some, None, ◌≡◌, List, [], ◌∷◌, ℕ, Bool, subst, ◌∙◌}
 use Rattle.ur_base.specs.Told.{WhereTold}
 use Rattle.ur_io.specs.Traffic.{Traffic}
 use Rattle.ur_io.specs.declared.session.Mark.TheVariants as mark

@@ -1,6 +1,6 @@
 use Rattle.std.proofs.Common.{◌≡◌, length, drop}
 use Rattle.ur_top.specs.Program.{argument}
-use Rattle.ur_top.proofs.pages.Call.argument.Given as goal
+use Rattle.ur_top.proofs.pages.Called.argument.Given as goal
 
 abbrev pub invariant-loop-param : goal.invariant-loop-param
 invariant-loop-param l =

@@ -1,7 +1,0 @@
-use Rattle.std.proofs.Common.{◌≡◌, ◌++◌, take}
-use Rattle.std.specs.List.{flat_map}
-use Rattle.ur_top.specs.Html.{escape}
-use Rattle.ur_top.proofs.pages.push_text.Given as goal
-
-abbrev pub invariant-loop-byte : goal.invariant-loop-byte
-invariant-loop-byte l = l.out ≡ l.initial.out ++ flat_map escape (take l.byte-index l.text)
