@@ -4,21 +4,20 @@ use Rattle.std.proofs.lemmas.Bool.Decides.{nat_tests}
 use Rattle.std.specs.List.{flat_map, All}
 use Rattle.std.proofs.lemmas.List.{drop-drop}
 use Rattle.std.proofs.Math.Seq.{take-nil}
-use Rattle.std.proofs.lemmas.List.Elements.{All-cons}
 use Rattle.httparse.specs.declared.Error.{Error}
 use Rattle.httparse.specs.declared.Error.TheVariants.{HeaderName, HeaderValue, NewLine, Status, Token, TooManyHeaders, Version}
-use Rattle.httparse.specs.Grammar.{RequestHead, print_request, ReadsRequest, NeverHasRequest, HasNoRequest, MayBecomeRequest, Field, IsField, print_field, print_end, LineEnd, crlf, lf}
+use Rattle.httparse.specs.Grammar.{RequestHead, print_request, ReadsRequest, Field, IsField, print_field, print_end, LineEnd, crlf, lf}
 use Rattle.httparse.specs.Spans.{RequestExceeds}
 use Rattle.httparse.proofs.GrammarLemmas.{print_request-append}
-use Rattle.httparse.specs.Spans.{IsRequestAt, span_bytes, header_bytes, name_and_value}
+use Rattle.httparse.specs.Spans.{IsRequestAt, span_bytes, header_bytes}
 use Rattle.httparse.specs.declared.spans.HeaderSpan.{HeaderSpan}
 use Rattle.httparse.specs.declared.spans.RequestSpans.{RequestSpans}
 use Rattle.ur_http.specs.declared.request.HttpRequest.{HttpRequest}
 use Rattle.ur_http.specs.declared.starts.Begun.TheVariants as begun
 use Rattle.ur_http.specs.Fields.{target_path}
-use Rattle.ur_http.specs.Requests.{greatest_head, fault_of, fault_in, body_length, length_in, request_of, request_in, fields_of}
-use Rattle.ur_http.specs.Items.{window, whole_lines, BeginsWith, MayBegin, Begins, request, more, fault}
-use Rattle.ur_http.specs.Reading.{IsBegun, IsWaiting}
+use Rattle.ur_http.specs.Requests.{fault_of, fault_in, body_length, length_in, request_of, request_in, fields_of}
+use Rattle.ur_http.specs.Items.{window, whole_lines, BeginsWith, Begins, request}
+use Rattle.ur_http.specs.Reading.{IsBegun}
 use Rattle.ur_http.proofs.Windows.{whole_lines_same, whole_lines_front, window_front, ended}
 
 -- ---- the last line end

@@ -1,17 +1,17 @@
 -- What is known of the bytes of a splitter, and what more bytes make of it.
-use Rattle.std.proofs.Common.{◌≡◌, ℕ, ◌+◌, ◌-◌, ◌<◌, ◌≤◌, nat_lt, Bool, true, false, List, [], ◌∷◌, ◌++◌, length, take, drop, Option, Some, None, unwrap_or, refl, sym, ap, subst, ◌∙◌, arith, length-append, length-drop, length-take}
+use Rattle.std.proofs.Common.{◌≡◌, ℕ, ◌+◌, ◌-◌, ◌<◌, ◌≤◌, nat_lt, Bool, true, false, List, ◌++◌, length, take, drop, Option, Some, None, unwrap_or, refl, sym, ap, subst, ◌∙◌, arith, length-append, length-drop, length-take}
 use Rattle.std.specs.List.{list_any}
 use Rattle.std.specs.Option.{is_none}
 use Rattle.std.proofs.lemmas.Bool.Decides.{nat_tests}
 use Rattle.std.proofs.lemmas.List.{take-append-le, take-append-drop, take_all, drop-append-le}
-use Rattle.httparse.specs.Grammar.{RequestHead, print_request, NeverHasRequest, HasNoRequest}
-use Rattle.ur_http.specs.declared.splitter.Known.{Known}
-use Rattle.ur_http.specs.declared.splitter.Known.TheVariants as known
+use Rattle.httparse.specs.Grammar.{RequestHead, print_request}
+use Rattle.ur_http.specs.declared.sought.Known.{Known}
+use Rattle.ur_http.specs.declared.sought.Known.TheVariants as known
 use Rattle.ur_http.specs.declared.starts.Begun.TheVariants as begun
 use Rattle.ur_http.specs.Fields.{target_path}
-use Rattle.ur_http.specs.Requests.{fault_of, fault_in, fault_where, or_else, length_fault, length_in, body_length, fields_of, lacks_host, is_coded, greatest_body}
-use Rattle.ur_http.specs.Items.{window, whole_lines, BeginsWith, MayBegin, Begins, Step, more, greatest_request}
-use Rattle.ur_http.specs.Reading.{IsBegun, IsWaiting}
+use Rattle.ur_http.specs.Requests.{fault_of, fault_where, or_else, length_fault, length_in, body_length, fields_of, lacks_host, is_coded}
+use Rattle.ur_http.specs.Items.{window, whole_lines, BeginsWith, Begins, Step, more}
+use Rattle.ur_http.specs.Reading.{IsBegun}
 use Rattle.ur_http.specs.Buffers.{IsKnown, IsBuffer}
 use Rattle.ur_http.proofs.Windows.{is_line_feed, whole_lines_same, whole_lines_front}
 use Rattle.ur_http.proofs.Once.{head_stays, head_within}
@@ -22,16 +22,10 @@ window_short : (bytes : List ℕ) → length bytes < 16384 → window bytes ≡ 
 unfolding window
 window_short bytes short = ap whole_lines (take_all 16384 bytes (omega (arith, short)))
 
-same_window : (bytes : List ℕ) (n : ℕ) → n ≤ length bytes → length bytes < 16384 → list_any is_line_feed (drop n bytes) ≡ false → window (take n bytes) ≡ window bytes
+pub same_window : (bytes : List ℕ) (n : ℕ) → n ≤ length bytes → length bytes < 16384 → list_any is_line_feed (drop n bytes) ≡ false → window (take n bytes) ≡ window bytes
 same_window bytes n within short new =
     let short_too : length (take n bytes) < 16384 = let l = length-take n bytes in omega arith in
     window_short (take n bytes) short_too ∙ sym (whole_lines_same (take n bytes) (drop n bytes) new) ∙ ap whole_lines (take-append-drop n bytes) ∙ sym (window_short bytes short)
-
-pub still_seeks : (bytes : List ℕ) (n : ℕ) → IsKnown bytes (known.MayBegin n) → list_any is_line_feed (drop n bytes) ≡ false → length bytes < 16384 → IsBegun bytes begun.Seeks
-unfolding MayBegin
-still_seeks bytes n (within, may) new short =
-    let also = subst (λ w. HasNoRequest w × ¬ (NeverHasRequest w)) (same_window bytes n within short new) may in
-    (Begins.no_head also short, also, short)
 
 pub still_waits : (bytes : List ℕ) (n : ℕ) → IsKnown bytes (known.Waits n) → length bytes < n → IsBegun bytes (begun.Waits n)
 unfolding BeginsWith
@@ -44,9 +38,13 @@ still_waits bytes n (h, rest, b, good, is) short =
 
 pub known_stays : (bytes piece : List ℕ) (k : Known) → IsKnown bytes k → IsKnown (bytes ++ piece) k
 known_stays bytes piece known.Nothing is = tt
-known_stays bytes piece (known.MayBegin n) (within, may) = (
+known_stays bytes piece (known.EmptyLines n) (within, (ends, is)) = (
   (let l : length (bytes ++ piece) ≡ length bytes + length piece = length-append bytes piece in omega arith),
-  subst MayBegin (sym (take-append-le n bytes piece within)) may,
+  (ends, ap window (take-append-le n bytes piece within) ∙ is),
+)
+known_stays bytes piece (known.Fields n) (within, (h, good, is)) = (
+  (let l : length (bytes ++ piece) ≡ length bytes + length piece = length-append bytes piece in omega arith),
+  (h, good, ap window (take-append-le n bytes piece within) ∙ is),
 )
 known_stays bytes piece (known.Waits n) (h, rest, b, good, is) = (h, rest ++ piece, head_stays bytes piece h rest b, good, is)
 

@@ -9,4 +9,5 @@ pub mod Begun
 pub mod Buffered
 pub mod Once
 pub mod Examples
+pub mod Fronts
 pub mod Whole

@@ -1,5 +1,5 @@
 -- The pairs of cookies, piece by piece and field by field.
-use Rattle.std.proofs.Common.{◌≡◌, ℕ, ◌+◌, ◌<◌, ◌==◌, ◌&&◌, Bool, true, false, List, [], ◌∷◌, ◌++◌, length, take, drop, get_or, map, filter, refl, sym, ap, subst, ◌∙◌, arith, append-nil, append_assoc, codes}
+use Rattle.std.proofs.Common.{◌≡◌, ℕ, ◌+◌, ◌<◌, ◌==◌, ◌&&◌, Bool, true, false, List, [], ◌∷◌, ◌++◌, length, take, drop, get_or, map, filter, refl, sym, ap, subst, ◌∙◌, append-nil, append_assoc, codes}
 use Rattle.std.specs.List.{flat_map, position_or_len, slice_split}
 use Rattle.std.proofs.lemmas.Grind.{flat_map-append}
 use Rattle.std.proofs.lemmas.Bool.{false_from_ne_true}

@@ -1,9 +1,7 @@
 -- A whole request's bytes, and the item that they are.
 use Rattle.std.specs.Prelude.{◌≡◌, ℕ, List, [], ◌∷◌, ◌++◌, codes, refl, false}
-use Rattle.std.proofs.Common.{lit≤, lit<}
-use Rattle.std.specs.Str.{is_utf8, chars, IsUtf8}
-use lib.Utf8.{encode as utf8_encode}
-use Rattle.httparse.specs.Grammar.{RequestHead, IsRequestHead, IsField, is_token_byte, print_request, crlf as crlf_end, trim_ows}
+use Rattle.std.proofs.Common.{lit≤}
+use Rattle.httparse.specs.Grammar.{RequestHead, IsRequestHead, print_request, crlf as crlf_end, trim_ows}
 use Rattle.ur_http.specs.declared.request.HttpRequest.{HttpRequest}
 use Rattle.ur_http.specs.declared.request.Method.TheVariants.{Get}
 use Rattle.ur_http.specs.Answers.{crlf}

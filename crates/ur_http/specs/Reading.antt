@@ -1,5 +1,5 @@
 -- Words on what is read of a head, and on what is known of bytes whose first request is not yet whole.
-use Rattle.std.specs.Prelude.{◌≡◌, ℕ, ◌+◌, ◌*◌, ◌<◌, ◌≤◌, List, [], ◌∷◌, length, take, drop, Option, Some, None, vec_capacity}
+use Rattle.std.specs.Prelude.{◌≡◌, ℕ, ◌+◌, ◌<◌, ◌≤◌, List, [], ◌∷◌, length, take, drop, None}
 use Rattle.httparse.specs.Grammar.{RequestHead, print_request}
 use Rattle.ur_http.specs.declared.fields.Field.{Field}
 use Rattle.ur_http.specs.declared.fields.Only.{Only}
@@ -7,8 +7,8 @@ use Rattle.ur_http.specs.declared.fields.Only.TheVariants.{Missing, One, Several
 use Rattle.ur_http.specs.declared.request.HttpRequest.{HttpRequest}
 use Rattle.ur_http.specs.declared.starts.Begun.{Begun}
 use Rattle.ur_http.specs.declared.starts.Begun.TheVariants.{Request, Waits, Seeks, Fault}
-use Rattle.ur_http.specs.Requests.{greatest_head, fault_of, body_length}
-use Rattle.ur_http.specs.Items.{BeginsWith, MayBegin, Begins, request, more, fault}
+use Rattle.ur_http.specs.Requests.{fault_of, body_length}
+use Rattle.ur_http.specs.Items.{BeginsWith, Begins, request, more, fault}
 
 abbrev pub field_pair : Field → List ℕ × List ℕ
 field_pair f = (f.name.now, f.value.now)
@@ -29,7 +29,7 @@ IsWaiting bytes n = (h : RequestHead) × (rest : List ℕ) × BeginsWith bytes h
 abbrev pub IsBegun : List ℕ → Begun → Type 0
 IsBegun bytes (Request r n) = Begins bytes (request r (drop n bytes)) × (n ≤ length bytes)
 IsBegun bytes (Waits n) = Begins bytes more × IsWaiting bytes n
-IsBegun bytes Seeks = Begins bytes more × MayBegin bytes × (length bytes < greatest_head)
+IsBegun bytes Seeks = Begins bytes more
 IsBegun bytes (Fault status) = Begins bytes (fault status)
 
 -- the request of a head of this length with its body, or the length that is waited for

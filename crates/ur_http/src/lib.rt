@@ -9,6 +9,7 @@ mod forms;
 mod heads;
 mod laws;
 mod request;
+mod sought;
 mod splitter;
 mod starts;
 mod target;

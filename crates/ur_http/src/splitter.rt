@@ -1,13 +1,13 @@
 //! Bytes that come in pieces.
 ghost use Rattle.std.specs.Prelude.{◌≡◌, ◌+◌, ◌-◌, ◌<◌, ◌≤◌, ◌++◌, length, take, drop, min, vec_capacity, None, IfOk, OnErr, true, false, ◌==◌, ◌*◌};
-ghost use Rattle.std.specs.List.{list_any};
 ghost use Rattle.ur_http.specs.Reading.{IsBegun};
 ghost use Rattle.ur_http.specs.Requests.{greatest_head};
 ghost use Rattle.ur_http.specs.Buffers.{IsKnown};
 ghost use Rattle.ur_http.specs.Items.{Gives, Begins, more, empty, greatest_request};
 
 use crate::request::Item;
-use crate::starts::{Begun, GREATEST_HEAD, start};
+use crate::sought::{Known, known_of, known_still};
+use crate::starts::{Begun, start};
 use httparse::spans::{EMPTY_HEADER_SPAN, HeaderSpan};
 use std::alloc::Global;
 use std::marker::Model;
@@ -19,15 +19,6 @@ const GREATEST_REQUEST: usize = 1_064_960;
 /// The number of fields for which there is room: more than the greatest head can hold, since a field line has three
 /// bytes or more.
 const FIELD_ROOM: usize = 5_462;
-
-/// What is known of the bytes that are left: nothing; that the first so many of them may still become a head; or that
-/// their first request has so many bytes.
-#[derive(Copy, Clone, Debug)]
-enum Known {
-    Nothing,
-    MayBegin(usize),
-    Waits(usize),
-}
 
 /// Cuts bytes that come in pieces into requests. Contracts see the bytes that are not yet given out in a request,
 /// and the status with which the bytes were refused. It has room for one greatest request, 1,064,960 bytes.
@@ -106,7 +97,10 @@ impl Splitter {
             return Ok(Item::Bad(status));
         }
         let left = &self.bytes[self.from..];
-        let length = left.len();
+        if let Some(known) = known_still(self.alloc, left, self.known, &mut self.spans)? {
+            self.known = known;
+            return Ok(Item::NeedMore);
+        }
         match found(self.alloc, left, self.known, &mut self.spans)? {
             Begun::Request(request, length) => {
                 self.from += length;
@@ -118,7 +112,7 @@ impl Splitter {
                 Ok(Item::NeedMore)
             }
             Begun::Seeks => {
-                self.known = Known::MayBegin(length);
+                self.known = known_of(self.alloc, left, &mut self.spans)?;
                 Ok(Item::NeedMore)
             }
             Begun::Fault(status) => {
@@ -147,32 +141,14 @@ fn found(
     ensures { IfOk result (IsBegun left.now) }
 {
     match known {
-        Known::Nothing => start(alloc, left, spans),
-        Known::MayBegin(seen) => {
-            if no_new_line(left, seen) {
-                return Ok(Begun::Seeks);
-            }
-            start(alloc, left, spans)
-        }
         Known::Waits(length) => {
             if left.len() < length {
                 return Ok(Begun::Waits(length));
             }
             start(alloc, left, spans)
         }
+        _ => start(alloc, left, spans),
     }
-}
-
-/// Whether no line end came after the bytes that were seen, and the bytes do not fill a head.
-fn no_new_line(left: &[u8], seen: usize) -> bool
-    requires { seen ≤ length left.now }
-    ensures { result ≡ true → (list_any (λ b. b == 10) (drop seen left.now) ≡ false) × (length left.now < greatest_head) }
-{
-    if left.len() >= GREATEST_HEAD {
-        return false;
-    }
-    let new = &left[seen..];
-    !new.contains(&b'\n')
 }
 
 /// Room behind the bytes from this one on, whose place it gives: they move to the front only where there is none.

@@ -39,7 +39,7 @@ pub(crate) fn start(alloc: Global, bytes: &[u8], spans: &mut [HeaderSpan]) -> Re
 }
 
 /// The bytes in which a head is sought: the whole lines of the first ones.
-fn window(bytes: &[u8]) -> &[u8]
+pub(crate) fn window(bytes: &[u8]) -> &[u8]
     ensures is { result.now ≡ items.window bytes.now }
     ensures within { length result.now ≤ length bytes.now }
     ensures bounded { length result.now ≤ greatest_head }

@@ -196,6 +196,34 @@ fn rows_in_pieces(rt: HostRuntime) -> Result<(), Fail> {
     Ok(())
 }
 
+/// What a row of bytes gives in two pieces, the first of which has so many bytes.
+fn told_in_two(alloc: Global, bytes: &[u8], cut: usize) -> Result<String, Fail> {
+    let mut splitter = Splitter::new(alloc)?;
+    let mut text = String::new(alloc);
+    let cut = cut.min(bytes.len());
+    let _ = splitter.feed(&bytes[..cut]);
+    if drain(&mut splitter, &mut text)? {
+        let _ = splitter.feed(&bytes[cut..]);
+        let _ = drain(&mut splitter, &mut text)?;
+    }
+    Ok(text)
+}
+
+#[test]
+fn a_post_cut_at_every_byte(rt: HostRuntime) -> Result<(), Fail> {
+    let alloc = rt.alloc();
+    let post =
+        b"\r\nPOST /Main/add/ann HTTP/1.1\r\nHost: h\r\nContent-Length: 14\r\n\r\nBody=a+b%26%C3".as_slice();
+    for cut in 0..post.len() {
+        let told = told_in_two(alloc, post, cut)?;
+        assert_eq!(rt;
+            told.as_str(),
+            "POST /Main/add/ann form Body=a b&\u{ef}\u{bf}\u{bd}\n"
+        );
+    }
+    Ok(())
+}
+
 /// A text and a part that follows it so often.
 fn repeated(alloc: Global, front: &str, part: &str, times: usize) -> Result<String, Fail> {
     let mut text = String::from_str(alloc, front)?;

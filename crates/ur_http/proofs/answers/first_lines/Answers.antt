@@ -1,5 +1,5 @@
 -- The pieces of the head, grouped to the right.
-use Rattle.std.proofs.Common.{ap, ◌∙◌, ◌++◌}
+use Rattle.std.proofs.Common.{ap, ◌∙◌}
 use mathlib.Core.List.{append_assoc}
 use Rattle.ur_http.specs.Answers.{first_lines}
 use Rattle.ur_http.proofs.answers.first_lines.Goals as goal

@@ -1,4 +1,3 @@
-use Rattle.std.proofs.Common.{refl}
 use Rattle.ur_http.specs.Fields.{cookies_of}
 use Rattle.ur_http.proofs.Pairs.{cookies_step}
 use Rattle.ur_http.proofs.cookies.cookies.Goals as goal

@@ -1,7 +1,6 @@
-use Rattle.std.proofs.Common.{◌≡◌, ◌∙◌, sym, rules, tests, map}
+use Rattle.std.proofs.Common.{◌∙◌, sym, rules, tests}
 use Rattle.std.proofs.lemmas.Iterator.{YieldsList-from_slice}
 use Rattle.std.proofs.lemmas.Iterator.Search.{any_from_yields_List}
-use Rattle.std.specs.List.{list_any}
 use Rattle.ur_http.specs.Fields.{has_close}
 use Rattle.ur_http.specs.Reading.{field_pair}
 use Rattle.ur_http.proofs.Values.{list_any_of}

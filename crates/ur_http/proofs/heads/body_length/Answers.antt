@@ -1,4 +1,4 @@
-use Rattle.std.proofs.Common.{◌∙◌, ap, Some, lit≤, map}
+use Rattle.std.proofs.Common.{◌∙◌, ap, Some, lit≤}
 use Rattle.ur_http.specs.Requests.{length_fault}
 use Rattle.ur_http.proofs.Faults.{length_missing, length_number, length_other, length_several, small_number, great_number}
 use Rattle.ur_http.proofs.heads.body_length.Goals as goal

@@ -1,4 +1,4 @@
-use Rattle.std.proofs.Common.{sym, map}
+use Rattle.std.proofs.Common.{sym}
 use Rattle.ur_http.proofs.Faults.{host_missing, host_one, host_several}
 use Rattle.ur_http.proofs.heads.lacks_host.Goals as goal
 

@@ -1,6 +1,4 @@
 use Rattle.ur_http.proofs.Once.{items_once, stays_decided}
-use Rattle.ur_http.proofs.Examples.{good}
-use Rattle.ur_http.proofs.Whole.{items, is_asked}
 use Rattle.ur_http.proofs.laws.one_list.Goals as goal
 
 pub returns-clause-one : goal.returns-clause-one

@@ -1,7 +1,6 @@
 -- What the parser answers on the window says what the bytes begin with.
-use Rattle.std.proofs.Common.{ap, sym, subst, arith, Err}
+use Rattle.std.proofs.Common.{ap, subst, Err}
 use Rattle.httparse.specs.Grammar.{HasNoRequest, MayBecomeRequest, NeverHasRequest}
-use Rattle.httparse.specs.declared.Error.TheVariants.{TooManyHeaders}
 use Rattle.ur_http.specs.Items.{Begins}
 use Rattle.ur_http.proofs.Begun.{fields_fit, never_at}
 use Rattle.ur_http.proofs.Once.{may_begin}

@@ -1,4 +1,4 @@
-use Rattle.std.proofs.Common.{◌≡◌, ◌∙◌, ap, sym, subst, ◌≤◌, length, take, min, arith, length-take}
+use Rattle.std.proofs.Common.{◌∙◌, ap, sym, subst, ◌≤◌, length, take, arith, length-take}
 use Rattle.ur_http.specs.Items.{window, whole_lines}
 use Rattle.ur_http.proofs.Begun.{take_min, window_within, whole_lines_within}
 use Rattle.ur_http.proofs.starts.window.Goals as goal

@@ -1,5 +1,4 @@
-use Rattle.std.proofs.Common.{ap}
-use Rattle.ur_http.specs.Fields.{target_path, path_in}
+use Rattle.ur_http.specs.Fields.{target_path}
 use Rattle.ur_http.proofs.target.target_path.Goals as goal
 
 pub returns : goal.returns
