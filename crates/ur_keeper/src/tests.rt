@@ -1,3 +1,5 @@
+mod failing;
+
 ghost use Rattle.std.specs.Prelude.{◌≡◌, ◌<◌, false, length, Some, IfOk};
 ghost use Rattle.ur_keeper.specs.Tables.{Keeps};
 ghost use Rattle.ur_keeper.specs.Keeper.{IsRowOf};
@@ -133,9 +135,10 @@ fn each_call_fails_by_its_number(rt: HostRuntime) -> Result<(), Fail> {
     Ok(())
 }
 
-/// A table with an int column and no key; and a row of the table.
+/// A table with an int column and no key, and a sequence; and a row of the table.
 fn plain(alloc: Global) -> Result<(Schema, Row), Memory>
     ensures table { IfOk result (λ made. HasOneTable made.0) }
+    ensures sequence { IfOk result (λ made. 0 < length made.0.sequences) }
     ensures row { IfOk result (λ made. IsRowOf (Keeps made.0) 0 made.1) }
 {
     let mut columns = List::new(alloc);
@@ -148,7 +151,8 @@ fn plain(alloc: Global) -> Result<(Schema, Row), Memory>
         keys: List::new(alloc),
         primary: false,
     })?;
-    let sequences = List::new(alloc);
+    let mut sequences = List::new(alloc);
+    sequences.push(List::from_slice(alloc, b"Ids")?)?;
     let mut row = List::new(alloc);
     row.push(Value::Int(7))?;
     Ok((Schema { tables, sequences }, row))
