@@ -1,0 +1,12 @@
+pub mod Order
+pub mod PutAfter
+pub mod InOrder
+pub mod Kinding
+pub mod FourLaws
+pub mod Shapes
+pub mod Telling
+pub mod Inserting
+pub mod PutMade
+pub mod Counts
+pub mod Equality
+pub mod Examples
