@@ -1,0 +1,6 @@
+pub mod Tokens
+pub mod Inversions
+pub mod Once
+pub mod Steps
+pub mod Choices
+pub mod LinesDecided

@@ -1,0 +1,4 @@
+pub mod KindNumbers
+pub mod Rules
+pub mod Places
+pub mod Lines

@@ -1,0 +1,15 @@
+//! Readers of tokens: what stands at a place, and what is answered where something else is wanted.
+#![tactic(auto)]
+
+mod law;
+mod parsed;
+mod place;
+#[cfg(test)]
+mod tests;
+
+pub use law::one_tree_of_lines;
+pub use parsed::{MAX_LEVELS, Parsed, above, below};
+pub use place::{
+    boxed, bytes_equal, expect, expect_name, expect_word, peek, pushed, same, sees, sees_word,
+    span, text, too_deep, unexpected,
+};

@@ -1,0 +1,22 @@
+pub mod Tests
+pub mod Checks
+pub mod Starts
+pub mod Firsts
+pub mod Most
+pub mod Table
+pub mod Leads
+pub mod Choice
+pub mod Watches
+pub mod Special
+pub mod Lines
+pub mod ConDecided
+pub mod ExpDecided
+pub mod SqlDecided
+pub mod XmlDecided
+pub mod DeclDecided
+pub mod AllDecided
+mod Reader
+mod Examples
+mod Samples
+mod Applications
+mod Embedded
