@@ -1,2 +1,3 @@
+mod Pairs
 mod Spans
 mod States

@@ -2,7 +2,11 @@
 //! from outside.
 #![tactic(auto)]
 
+mod answers;
+mod changes;
+mod congruence;
 mod keeper;
+mod pieces;
 
 ghost use Rattle.std.specs.Prelude.{◌≤◌, IfOk};
 
@@ -59,13 +63,94 @@ fn bench(rt: &HostRuntime) -> Result<(), BenchEnd> {
         return Err(BenchEnd::Usage);
     };
     match name.as_str() {
-        "keeper" => {
-            let rows = size(words.next(), keeper::MOST_ROWS)?;
-            let counts = keeper::change_all(rt.alloc(), rows)?;
-            println!(rt; "keeper {counts}")?;
+        "keeper" => change_rows(rt, words.next()),
+        "keys" => plan_changes(rt, words.next()),
+        "join" => join(rt, words.next()),
+        "group" => group(rt, words.next()),
+        "order" => order(rt, words.next()),
+        "chain" => chain(rt, words.next()),
+        "pairwise" => pairwise(rt, words.next()),
+        "powers" => powers(rt, words.next()),
+        "request" => {
+            let parts = pieces::Parts {
+                empty_lines: size(words.next(), pieces::MOST)?,
+                short_fields: size(words.next(), pieces::MOST)?,
+                long_field: size(words.next(), pieces::MOST)?,
+                body: size(words.next(), pieces::MOST)?,
+            };
+            request(rt, parts)
         }
-        _ => return Err(BenchEnd::Usage),
+        "pipelined" => pipelined(rt, words.next()),
+        _ => Err(BenchEnd::Usage),
     }
+}
+
+fn request(rt: &HostRuntime, parts: pieces::Parts) -> Result<(), BenchEnd> {
+    let cut = pieces::cut_bytes(rt.alloc(), parts)?;
+    println!(rt; "request {cut}")?;
+    Ok(())
+}
+
+fn pipelined(rt: &HostRuntime, word: Option<String>) -> Result<(), BenchEnd> {
+    let requests = size(word, pieces::MOST)?;
+    let cut = pieces::cut_pipelined(rt.alloc(), requests)?;
+    println!(rt; "pipelined {cut}")?;
+    Ok(())
+}
+
+fn change_rows(rt: &HostRuntime, word: Option<String>) -> Result<(), BenchEnd> {
+    let rows = size(word, keeper::MOST_ROWS)?;
+    let counts = keeper::change_all(rt.alloc(), rows)?;
+    println!(rt; "keeper {counts}")?;
+    Ok(())
+}
+
+fn plan_changes(rt: &HostRuntime, word: Option<String>) -> Result<(), BenchEnd> {
+    let rows = size(word, keeper::MOST_ROWS)?;
+    let plans = changes::plan_all(rt.alloc(), rows)?;
+    println!(rt; "keys {plans}")?;
+    Ok(())
+}
+
+fn join(rt: &HostRuntime, word: Option<String>) -> Result<(), BenchEnd> {
+    let rows = size(word, keeper::MOST_ROWS)?;
+    let count = answers::join(rt.alloc(), rows)?;
+    println!(rt; "join {count}")?;
+    Ok(())
+}
+
+fn group(rt: &HostRuntime, word: Option<String>) -> Result<(), BenchEnd> {
+    let rows = size(word, keeper::MOST_ROWS)?;
+    let count = answers::group(rt.alloc(), rows)?;
+    println!(rt; "group {count}")?;
+    Ok(())
+}
+
+fn order(rt: &HostRuntime, word: Option<String>) -> Result<(), BenchEnd> {
+    let rows = size(word, keeper::MOST_ROWS)?;
+    let count = answers::order(rt.alloc(), rows)?;
+    println!(rt; "order {count}")?;
+    Ok(())
+}
+
+fn chain(rt: &HostRuntime, word: Option<String>) -> Result<(), BenchEnd> {
+    let terms = size(word, congruence::MOST_TERMS)?;
+    let equal = congruence::chain(rt.alloc(), terms)?;
+    println!(rt; "chain {equal}")?;
+    Ok(())
+}
+
+fn pairwise(rt: &HostRuntime, word: Option<String>) -> Result<(), BenchEnd> {
+    let terms = size(word, congruence::MOST_TERMS)?;
+    let equal = congruence::pairwise(rt.alloc(), terms)?;
+    println!(rt; "pairwise {equal}")?;
+    Ok(())
+}
+
+fn powers(rt: &HostRuntime, word: Option<String>) -> Result<(), BenchEnd> {
+    let terms = size(word, congruence::MOST_TERMS)?;
+    let equal = congruence::powers(rt.alloc(), terms)?;
+    println!(rt; "powers {equal}")?;
     Ok(())
 }
 
