@@ -192,6 +192,20 @@ pub told-fields : {o p q : Ordering} {a b : Part} {l m : Label} {t u x y : Norma
 told-fields {a = a} {b = b} {l = l} {m = m} {t = t} {u = u} e f g h k n j = subst (λ z. Tells z (part_form a) (part_form b)) (sym k)
     (parts-told (e ∙ field-made l t) (f ∙ field-made m u) (told-then n (types-told (sym g) (sym h) j)))
 
+is-equal : (o : Ordering) → is_eq o ≡ true → o ≡ Equal
+is-equal Less e = absurd (true≢false (sym e))
+is-equal Equal e = refl
+is-equal Greater e = absurd (true≢false (sym e))
+
+pub told-labels : {o : Ordering} {a b : Part} {l m : Label} (t u : NormalType) → a ≡ part.Field l t → b ≡ part.Field m u → is_eq o ≡ false →
+    Tells o (label_form l) (label_form m) → Tells o (part_form a) (part_form b)
+told-labels {o} {l = l} {m = m} t u e f h n = parts-told (e ∙ field-made l t) (f ∙ field-made m u)
+    (record { told = λ xs ys. n.told (type_form t xs) (type_form u ys) ∙ absorbs o (words (type_form t xs) (type_form u ys)) (words xs ys) h })
+
+pub told-types : {o p : Ordering} {a b : Part} {l m : Label} {t u x y : NormalType} → a ≡ part.Field l t → b ≡ part.Field m u → x ≡ t → y ≡ u → is_eq o ≡ true →
+    Tells o (label_form l) (label_form m) → Tells p (type_form x) (type_form y) → Tells p (part_form a) (part_form b)
+told-types {o} {p} e f g h i n j = told-fields e f g h (sym (ap (λ z. ordering_then z p) (is-equal o i))) n j
+
 label-before : (l : Label) (t : NormalType) (xs ys : List ℕ) → words (part_form (field l t) xs) (2 ∷ ys) ≡ Less
 label-before (label.Literal a) t xs ys = refl
 label-before (label.Variable v) t xs ys = refl
@@ -226,6 +240,15 @@ pub told-mapped : {o p q : Ordering} {a b : Part} {v w : Var} {t u x y : NormalT
     Tells o (place v) (place w) → Tells p (type_form x) (type_form y) → Tells q (part_form a) (part_form b)
 told-mapped {a = a} {b = b} {v = v} {w = w} {t = t} {u = u} e f g h k n j = subst (λ z. Tells z (part_form a) (part_form b)) (sym k)
     (parts-told (e ∙ mapped-made v t) (f ∙ mapped-made w u) (told-tag 2 (told-then n (told-tag 1 (types-told (sym g) (sym h) j)))))
+
+pub told-variables : {o : Ordering} {a b : Part} {v w : Var} (t u : NormalType) → a ≡ part.Mapped v t → b ≡ part.Mapped w u → is_eq o ≡ false →
+    Tells o (place v) (place w) → Tells o (part_form a) (part_form b)
+told-variables {o} {v = v} {w = w} t u e f h n = parts-told (e ∙ mapped-made v t) (f ∙ mapped-made w u)
+    (told-tag 2 (record { told = λ xs ys. n.told (1 ∷ type_form t xs) (1 ∷ type_form u ys) ∙ absorbs o (words (1 ∷ type_form t xs) (1 ∷ type_form u ys)) (words xs ys) h }))
+
+pub told-functions : {o p : Ordering} {a b : Part} {v w : Var} {t u x y : NormalType} → a ≡ part.Mapped v t → b ≡ part.Mapped w u → x ≡ t → y ≡ u → is_eq o ≡ true →
+    Tells o (place v) (place w) → Tells p (type_form x) (type_form y) → Tells p (part_form a) (part_form b)
+told-functions {o} {p} e f g h i n j = told-mapped e f g h (sym (ap (λ z. ordering_then z p) (is-equal o i))) n j
 
 -- ---- rows
 
@@ -311,11 +334,6 @@ pub loop-differs : (a b xs ys : List Part) (i : ℕ) (x y : Part) (o : Ordering)
 loop-differs a b xs ys i x y o e f k h g m n t z = rows-told a b xs ys e f (k o
     (rows-told (drop i xs) (drop i ys) (x ∷ drop (i + 1) xs) (y ∷ drop (i + 1) ys) (sym (drop-here xs i x h m)) (sym (drop-here ys i y g n))
     (told-first x y (drop (i + 1) xs) (drop (i + 1) ys) t z)))
-
-is-equal : (o : Ordering) → is_eq o ≡ true → o ≡ Equal
-is-equal Less e = absurd (true≢false (sym e))
-is-equal Equal e = refl
-is-equal Greater e = absurd (true≢false (sym e))
 
 pub loop-goes : (xs ys : List Part) (i : ℕ) (x y : Part) (o : Ordering) → Kept xs ys i → i < length xs → i < length ys →
     x ≡ get_or xs i x → y ≡ get_or ys i y → Tells o (part_form x) (part_form y) → is_eq o ≡ true → Kept xs ys (i + 1)

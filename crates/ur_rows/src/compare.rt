@@ -133,7 +133,13 @@ pub fn compare_parts(a: &Part, b: &Part) -> Ordering
 {
     match a {
         Part::Field(l, t) => match b {
-            Part::Field(m, u) => compare_labels(l, m).then(compare_types(t.get(), u.get())),
+            Part::Field(m, u) => {
+                let by_label = compare_labels(l, m);
+                if !by_label.is_eq() {
+                    return by_label;
+                }
+                compare_types(t.get(), u.get())
+            }
             Part::Piece(_) => Ordering::Less,
             Part::Mapped(_, _) => Ordering::Less,
         },
@@ -145,7 +151,13 @@ pub fn compare_parts(a: &Part, b: &Part) -> Ordering
         Part::Mapped(v, t) => match b {
             Part::Field(_, _) => Ordering::Greater,
             Part::Piece(w) => compare_vars(v, w).then(Ordering::Greater),
-            Part::Mapped(w, u) => compare_vars(v, w).then(compare_types(t.get(), u.get())),
+            Part::Mapped(w, u) => {
+                let by_variable = compare_vars(v, w);
+                if !by_variable.is_eq() {
+                    return by_variable;
+                }
+                compare_types(t.get(), u.get())
+            }
         },
     }
 }

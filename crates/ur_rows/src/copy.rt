@@ -4,7 +4,6 @@ use crate::normal::{Label, Normal, NormalType, Part, Var};
 use crate::put::boxed;
 use std::alloc::Global;
 use ur_base::{Boxed, List, Memory, Text};
-use ur_syntax::Kind;
 
 pub fn copy_text(alloc: Global, text: &Text) -> Result<Text, Memory>
     ensures { IfOk result (λ t. t ≡ text.now) }
@@ -27,21 +26,6 @@ pub fn copy_label(alloc: Global, l: &Label) -> Result<Label, Memory>
     match l {
         Label::Literal(name) => Ok(Label::Literal(copy_text(alloc, name)?)),
         Label::Variable(v) => Ok(Label::Variable(copy_var(v))),
-    }
-}
-
-pub fn copy_kind(alloc: Global, k: &Kind) -> Result<Kind, Memory>
-    ensures { IfOk result (λ x. x ≡ k.now) }
-{
-    match k {
-        Kind::Star => Ok(Kind::Star),
-        Kind::Name => Ok(Kind::Name),
-        Kind::Row => Ok(Kind::Row),
-        Kind::Arrow(a, b) => {
-            let x = copy_kind(alloc, a.get())?;
-            let y = copy_kind(alloc, b.get())?;
-            Ok(Kind::Arrow(Boxed::new(alloc, x)?, Boxed::new(alloc, y)?))
-        }
     }
 }
 

@@ -1,11 +1,12 @@
 ghost use Rattle.std.specs.Prelude.{◌≡◌, suc, [], ◌∷◌, IfOk};
 ghost use Rattle.ur_rows.specs.Put.{Putting, put, put_label, put_type, put_part, put_row};
 
-use crate::copy::{boxed_normal, copy_kind, copy_text};
+use crate::copy::{boxed_normal, copy_text};
 use crate::normal::{Label, Normal, NormalType, Part, Var};
 use crate::union::joined;
 use std::alloc::Global;
 use ur_base::{Boxed, List, Memory};
+use ur_syntax::copy_kind;
 
 /// What is put in place of variables.
 pub trait Puts {

@@ -1,9 +1,12 @@
 use Rattle.std.proofs.Common.{rules, arith, sym, ap₂, ◌∙◌, nat_cmp}
-use Rattle.ur_rows.proofs.Telling.{told-opt, told-many, told-transaction, told-arrow, told-record, told-form, told-tags, told-constant, told-fields, told-field-piece, told-field-mapped, told-piece-field, told-mapped-field, told-piece-mapped, told-mapped-piece, told-mapped, constant-tag, loop-longer, loop-shorter, loop-same, loop-differs, loop-goes}
+use Rattle.ur_rows.proofs.Telling.{told-opt, told-many, told-transaction, told-arrow, told-record, told-form, told-tags, told-constant, told-labels, told-types, told-field-piece, told-field-mapped, told-piece-field, told-mapped-field, told-piece-mapped, told-mapped-piece, told-variables, told-functions, constant-tag, loop-longer, loop-shorter, loop-same, loop-differs, loop-goes}
 use Rattle.ur_rows.proofs.compare.+comparing.Goals as goal
 
-pub compare_parts-returns-in-Field-b : goal.compare_parts-returns-in-Field-b
-compare_parts-returns-in-Field-b t c = told-fields c.in-Field.is c.in-Field-b.is c.get.ensures c.get-in-Field-b.ensures c.then.ensures c.compare_labels.ensures c.compare_types.ensures
+pub compare_parts-returns-then-not-is_eq : goal.compare_parts-returns-then-not-is_eq
+compare_parts-returns-then-not-is_eq t c = told-labels c.in-Field.t c.in-Field-b.u c.in-Field.is c.in-Field-b.is (sym c.is_eq.ensures ∙ c.if-not-is_eq.true) c.compare_labels-by_label.ensures
+
+pub compare_parts-returns-else-not-is_eq : goal.compare_parts-returns-else-not-is_eq
+compare_parts-returns-else-not-is_eq t c = told-types c.in-Field.is c.in-Field-b.is c.get.ensures c.get-in-Field-b.ensures (sym c.is_eq.ensures ∙ c.if-not-is_eq.false) c.compare_labels-by_label.ensures c.compare_types.ensures
 
 pub compare_parts-returns-in-Piece-b : goal.compare_parts-returns-in-Piece-b
 compare_parts-returns-in-Piece-b t c = told-field-piece c.in-Field.l c.in-Field.t c.in-Field.is c.in-Piece-b.is
@@ -15,7 +18,7 @@ pub compare_parts-returns-in-Field-b-2 : goal.compare_parts-returns-in-Field-b-2
 compare_parts-returns-in-Field-b-2 t c = told-piece-field c.in-Field-b-2.field-0 c.in-Field-b-2.field-1 c.in-Piece.is c.in-Field-b-2.is
 
 pub compare_parts-returns-in-Mapped-b-2 : goal.compare_parts-returns-in-Mapped-b-2
-compare_parts-returns-in-Mapped-b-2 t c = told-piece-mapped c.in-Piece.v c.in-Mapped-b-2.w c.in-Mapped-b-2.field-1 c.in-Piece.is c.in-Mapped-b-2.is c.then-in-Mapped-b-2.ensures c.compare_vars-in-Mapped-b-2.ensures
+compare_parts-returns-in-Mapped-b-2 t c = told-piece-mapped c.in-Piece.v c.in-Mapped-b-2.w c.in-Mapped-b-2.field-1 c.in-Piece.is c.in-Mapped-b-2.is c.then.ensures c.compare_vars-in-Mapped-b-2.ensures
 
 pub compare_parts-returns-in-Field-b-3 : goal.compare_parts-returns-in-Field-b-3
 compare_parts-returns-in-Field-b-3 t c = told-mapped-field c.in-Field-b-3.field-0 c.in-Field-b-3.field-1 c.in-Mapped.t c.in-Mapped.v c.in-Mapped.is c.in-Field-b-3.is
@@ -23,9 +26,12 @@ compare_parts-returns-in-Field-b-3 t c = told-mapped-field c.in-Field-b-3.field-
 pub compare_parts-returns-in-Piece-b-3 : goal.compare_parts-returns-in-Piece-b-3
 compare_parts-returns-in-Piece-b-3 t c = told-mapped-piece c.in-Mapped.v c.in-Piece-b-3.w c.in-Mapped.t c.in-Mapped.is c.in-Piece-b-3.is c.then-in-Piece-b-3.ensures c.compare_vars-in-Piece-b-3.ensures
 
-pub compare_parts-returns-in-Mapped-b-3 : goal.compare_parts-returns-in-Mapped-b-3
-compare_parts-returns-in-Mapped-b-3 t c = told-mapped c.in-Mapped.is c.in-Mapped-b-3.is c.get-in-Mapped-b-3.ensures c.get-in-Mapped-b-3-2.ensures c.then-in-Mapped-b-3.ensures
-    c.compare_vars-in-Mapped-b-3.ensures c.compare_types-in-Mapped-b-3.ensures
+pub compare_parts-returns-then-not-is_eq-2 : goal.compare_parts-returns-then-not-is_eq-2
+compare_parts-returns-then-not-is_eq-2 t c = told-variables c.in-Mapped.t c.in-Mapped-b-3.u c.in-Mapped.is c.in-Mapped-b-3.is (sym c.is_eq-in-Mapped-b-3.ensures ∙ c.if-not-is_eq-2.true) c.compare_vars-by_variable.ensures
+
+pub compare_parts-returns-else-not-is_eq-2 : goal.compare_parts-returns-else-not-is_eq-2
+compare_parts-returns-else-not-is_eq-2 t c = told-functions c.in-Mapped.is c.in-Mapped-b-3.is c.get-in-Mapped-b-3.ensures c.get-in-Mapped-b-3-2.ensures (sym c.is_eq-in-Mapped-b-3.ensures ∙ c.if-not-is_eq-2.false)
+    c.compare_vars-by_variable.ensures c.compare_types-in-Mapped-b-3.ensures
 
 pub compare_types-returns-then-not-is_eq : goal.compare_types-returns-then-not-is_eq
 compare_types-returns-then-not-is_eq t c = told-tags c.args.a.now c.args.b.now c.cmp-by_tag.result

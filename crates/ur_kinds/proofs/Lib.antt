@@ -1,0 +1,5 @@
+mod Fitting
+mod Infer
+mod Lookups
+mod Parts
+mod Walking

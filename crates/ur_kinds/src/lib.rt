@@ -1,0 +1,16 @@
+//! Kinds of constructors: the kind that a constructor has, or else its first unknown name, or a rule of kinds that it
+//! breaks.
+#![tactic(auto)]
+
+mod answer;
+mod kinds;
+mod laws;
+mod name_walk;
+mod names;
+#[cfg(test)]
+mod tests;
+mod walk;
+mod words;
+
+pub use answer::{has_kind, kind_of};
+pub use laws::{kinded_is_known, one_kind};
