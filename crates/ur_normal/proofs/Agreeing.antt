@@ -1,0 +1,89 @@
+-- What is kept of names tells of what these stand for.
+use Rattle.std.proofs.Common.{◌≡◌, refl, ap, ap₂, sym, ◌∙◌, subst, ℕ, zero, suc, ◌+◌, ◌-◌, ◌<◌, arith, Bool, true, false, ◌⊎◌, inl, inr, if◌then◌else◌, List, [], ◌∷◌, ◌++◌, length, drop, get_or, Option, Some, None, bytes_eq}
+use Rattle.std.proofs.lemmas.Bool.{cases_Bool}
+use Rattle.std.proofs.lemmas.List.{drop_more}
+use Rattle.ur_syntax.specs.declared.con.Con.{Con}
+use Rattle.ur_syntax.specs.declared.con.ConName.{ConName}
+use Rattle.ur_syntax.specs.declared.con.ConMeaning.{ConMeaning}
+use Rattle.ur_syntax.specs.declared.con.ConMeaning.TheVariants as meaning
+use Rattle.ur_syntax.specs.declared.con.ConEntry.{ConEntry}
+use Rattle.ur_syntax.specs.declared.con.ConEnv.{ConEnv}
+use Rattle.ur_syntax.specs.Names.{looked_up, or_own, seen_by, seen, same_con, member}
+use Rattle.ur_rows.specs.declared.normal.Normal.{Normal}
+use Rattle.ur_rows.specs.IsNormal.{is_normal}
+use Rattle.ur_rows.specs.Normal.{Known, known_in, known_after, at_home, entry_form, variables_with, nf_with}
+use Rattle.ur_normal.specs.declared.held.Held.{Held}
+use Rattle.ur_normal.specs.declared.names.Entry.{Entry}
+use Rattle.ur_normal.specs.Held.{Holds}
+use Rattle.ur_normal.specs.Walk.{AgreesOn, Agrees, declared, known_so, home_in, IsKnown}
+use Rattle.ur_normal.proofs.Standing.{declared-last}
+
+-- ---- looking up
+
+agrees-if : (b c : Bool) (h i : Option (ℕ × Held)) (n m : Option (ℕ × Normal)) → b ≡ c → AgreesOn h n → AgreesOn i m → AgreesOn (if b then h else i) (if c then n else m)
+agrees-if true true h i n m e p q = p
+agrees-if true false h i n m e p q = absurd (cc)
+agrees-if false true h i n m e p q = absurd (cc)
+agrees-if false false h i n m e p q = q
+
+pub looked-agrees : (k : ConName) (hs : List (ConName × (ℕ × Held))) (ns : List (ConName × (ℕ × Normal))) → Agrees hs ns → AgreesOn (looked_up k hs) (looked_up k ns)
+looked-agrees k [] [] a = tt
+looked-agrees k [] (n ∷ ns) a = absurd a
+looked-agrees k (h ∷ hs) [] a = absurd a
+looked-agrees k (h ∷ hs) (n ∷ ns) a = agrees-if (same_con k h.0) (same_con k n.0) (Some h.1) (looked_up k hs) (Some n.1) (looked_up k ns) (ap (same_con k) a.0) a.1 (looked-agrees k hs ns a.2)
+
+or-agrees : (m : List ℕ) (k : ConName) (hs : List (ConName × (ℕ × Held))) (ns : List (ConName × (ℕ × Normal))) (h : Option (ℕ × Held)) (n : Option (ℕ × Normal)) → Agrees hs ns → AgreesOn h n →
+    AgreesOn (or_own m k hs h) (or_own m k ns n)
+or-agrees m k hs ns None None a e = looked-agrees (member m k.name) hs ns a
+or-agrees m k hs ns None (Some n) a e = absurd e
+or-agrees m k hs ns (Some h) None a e = absurd e
+or-agrees m k hs ns (Some h) (Some n) a e = e
+
+by-agrees : (o : Option (List ℕ)) (m : List ℕ) (k : ConName) (hs : List (ConName × (ℕ × Held))) (ns : List (ConName × (ℕ × Normal))) → Agrees hs ns → AgreesOn (seen_by o m k hs) (seen_by o m k ns)
+by-agrees None m k hs ns a = or-agrees m k hs ns (looked_up k hs) (looked_up k ns) a (looked-agrees k hs ns a)
+by-agrees (Some n) m k hs ns a = agrees-if (bytes_eq n m) (bytes_eq n m) None (looked_up k hs) None (looked_up k ns) refl tt (looked-agrees k hs ns a)
+
+pub seen-agrees : (m : List ℕ) (k : ConName) (hs : List (ConName × (ℕ × Held))) (ns : List (ConName × (ℕ × Normal))) → Agrees hs ns → AgreesOn (seen m k hs) (seen m k ns)
+seen-agrees m k hs ns a = by-agrees k.home m k hs ns a
+
+-- ---- the names of an environment
+
+pub known-end : (home : List ℕ) (names : List (ConName × (ℕ × Normal))) (n i : ℕ) (es : List ConEntry) → drop i es ≡ [] → known_after (known_so home names) n (drop i es) ≡ known_so home names
+known-end home names n i es e = ap (known_after (known_so home names) n) e
+
+abbrev with_form : ConEntry → Normal → ConName × (ℕ × Normal)
+with_form e n = (e.name, (0, n))
+
+entry-at : (es : List ConEntry) (i : ℕ) (e : ConEntry) → i < length es → e ≡ get_or es i e → drop i es ≡ e ∷ drop (i + 1) es
+entry-at es i e h k = drop_more es i e h ∙ ap (λ z. z ∷ drop (i + 1) es) (sym k)
+
+-- what is known so far, and what is known of all entries
+abbrev pub KnownSo : ConEnv → List Entry → ℕ → List ConEntry → Type 0
+KnownSo env known n es = (names : List (ConName × (ℕ × Normal))) × Agrees (declared known []) names × (known_in env ≡ known_after (known_so env.home names) n es)
+
+pub known-start : (env : ConEnv) (known : List Entry) (es : List ConEntry) → known ≡ [] → es ≡ env.entries → KnownSo env known 0 (drop 0 es)
+known-start env known es e f = ([], subst (λ z. Agrees (declared z []) []) (sym e) tt, ap (known_after (known_so env.home []) 0) (sym f))
+
+pub known-step : (env : ConEnv) (es : List ConEntry) (i : ℕ) (e : ConEntry) (known slice more : List Entry) (x : Entry) (n m : ℕ) → KnownSo env known n (drop i es) → i < length es → e ≡ get_or es i e → slice ≡ known →
+    ((names : List (ConName × (ℕ × Normal))) → Agrees (declared slice []) names → Holds x.held (entry_form (known_so env.home names) n e.name.home e.kind e.meaning)) →
+    ((names : List (ConName × (ℕ × Normal))) → is_normal (entry_form (known_so env.home names) n e.name.home e.kind e.meaning) ≡ true) →
+    m ≡ variables_with e.meaning n → x.name ≡ e.name → more ≡ known ++ x ∷ [] → KnownSo env more m (drop (i + 1) es)
+known-step env es i e known slice more x n m s h k l f o v q p = (
+  with_form e form ∷ s.0,
+  subst (λ z. Agrees z (with_form e form ∷ s.0)) (sym (ap (λ z. declared z []) p ∙ declared-last known x [])) (q, (refl, f s.0 (subst (λ z. Agrees (declared z []) s.0) (sym l) s.1), o s.0), s.1),
+  s.2 ∙ ap (known_after (known_so env.home s.0) n) (entry-at es i e h k) ∙ ap (λ z. known_after (known_so env.home (with_form e form ∷ s.0)) z (drop (i + 1) es)) (sym v),
+) where
+  form : Normal
+  form = entry_form (known_so env.home s.0) n e.name.home e.kind e.meaning
+
+pub known-whole : (env : ConEnv) (known : List Entry) (n : ℕ) (es : List ConEntry) → es ≡ [] → KnownSo env known n es → IsKnown known env
+known-whole env known n es e s = (s.0, s.1, s.2 ∙ ap (known_after (known_so env.home s.0) n) e)
+
+at-home : (h : Option (List ℕ)) (home : List ℕ) (names : List (ConName × (ℕ × Normal))) → at_home h (known_so home names) ≡ known_so (home_in h home) names
+at-home None home names = refl
+at-home (Some m) home names = refl
+
+pub form-defined : (h : Held) (home g : List ℕ) (names : List (ConName × (ℕ × Normal))) (n : ℕ) (e : ConEntry) (c : Con) → e.meaning ≡ meaning.Defined c → g ≡ home_in e.name.home home →
+    Holds h (nf_with (known_so g names) c.form []) → Holds h (entry_form (known_so home names) n e.name.home e.kind e.meaning)
+form-defined h home g names n e c i j w = subst (λ z. Holds h (entry_form (known_so home names) n e.name.home e.kind z)) (sym i)
+    (subst (λ (z : Known). Holds h (nf_with z c.form [])) (ap (λ z. known_so z names) j ∙ sym (at-home e.name.home home names)) w)

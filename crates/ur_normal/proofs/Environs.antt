@@ -1,0 +1,52 @@
+-- What the entries of an environment stand for, and the constructor that is read in it.
+use Rattle.std.proofs.Common.{◌≡◌, refl, ap, ap₂, sym, ◌∙◌, subst, ℕ, ◌<◌, ◌≤◌, arith, true, List, [], ◌∷◌, Option, Some, None, Result, IfOk}
+use Rattle.std.proofs.lemmas.Result.{IfOk-weaker}
+use Rattle.ur_base.specs.declared.refusal.Memory.{Memory}
+use Rattle.ur_syntax.specs.declared.kind.Kind.{Kind}
+use Rattle.ur_syntax.specs.declared.con.Con.{Con}
+use Rattle.ur_syntax.specs.declared.con.ConName.{ConName}
+use Rattle.ur_syntax.specs.declared.con.ConMeaning.{ConMeaning}
+use Rattle.ur_syntax.specs.declared.con.ConMeaning.TheVariants as meaning
+use Rattle.ur_syntax.specs.declared.con.ConEntry.{ConEntry}
+use Rattle.ur_syntax.specs.declared.con.ConEnv.{ConEnv}
+use Rattle.ur_rows.specs.declared.normal.Var.TheVariants as var
+use Rattle.ur_rows.specs.declared.normal.NormalType.TheVariants as ty
+use Rattle.ur_rows.specs.declared.normal.Normal.{Normal}
+use Rattle.ur_rows.specs.declared.normal.Normal.TheVariants as normal
+use Rattle.ur_rows.specs.IsNormal.{is_normal}
+use Rattle.ur_rows.specs.Nodes.{nodes, most_nodes}
+use Rattle.ur_rows.specs.Normal.{Known, known_in, variable, at_home, entry_form, nf_with, nf}
+use Rattle.ur_rows.proofs.InOrder.{nf_with-normal}
+use Rattle.ur_normal.specs.declared.held.Held.{Held}
+use Rattle.ur_normal.specs.declared.held.Held.TheVariants as held
+use Rattle.ur_normal.specs.declared.names.Entry.{Entry}
+use Rattle.ur_normal.specs.declared.names.Scope.{Scope}
+use Rattle.ur_normal.specs.Held.{Holds}
+use Rattle.ur_normal.specs.Walk.{Agrees, Tells, IsForm, IsKnown, declared, names_of, known_so, home_in}
+use Rattle.ur_normal.proofs.Agreeing.{form-defined}
+use Rattle.ur_normal.proofs.Walked.{variable-holds, variable-normal}
+
+pub entry-normal : (known : Known) (n : ℕ) (home : Option (List ℕ)) (k : Kind) (m : ConMeaning) → is_normal (entry_form known n home k m) ≡ true
+entry-normal known n home k meaning.Variable = variable-normal k (var.Free n)
+entry-normal known n home k (meaning.Defined c) = nf_with-normal (at_home home known) c.form [] refl
+entry-normal known n home k (meaning.Datatype d) = refl
+
+abbrev pub Stands : List ℕ → List Entry → ℕ → ConEntry → Held → Type 0
+Stands home known n e h = (names : List (ConName × (ℕ × Normal))) → Agrees (declared known []) names → Holds h (entry_form (known_so home names) n e.name.home e.kind e.meaning)
+
+pub stands-variable : (home : List ℕ) (known : List Entry) (n : ℕ) (e : ConEntry) (v : Normal) → e.meaning ≡ meaning.Variable → v ≡ variable e.kind (var.Free n) → Stands home known n e (held.Form v)
+stands-variable home known n e v i j names a = subst (λ z. Holds (held.Form v) (entry_form (known_so home names) n e.name.home e.kind z)) (sym i) (variable-holds e.kind (var.Free n) v j)
+
+pub stands-datatype : (home : List ℕ) (known : List Entry) (n d : ℕ) (e : ConEntry) → e.meaning ≡ meaning.Datatype d → Stands home known n e (held.Form (normal.Type (ty.Datatype d)))
+stands-datatype home known n d e i names a = subst (λ z. Holds (held.Form (normal.Type (ty.Datatype d))) (entry_form (known_so home names) n e.name.home e.kind z)) (sym i) (refl, omega arith)
+
+pub scope-tells : (s : Scope) (known : List Entry) (g : List ℕ) (names : List (ConName × (ℕ × Normal))) → s.home.now ≡ g → s.depth ≡ 0 → names_of s.names.now ≡ declared known [] → Agrees (declared known []) names → Tells s (known_so g names)
+scope-tells s known g names e f h a = record { home = e; depth = f; names = subst (λ z. Agrees z names) (sym h) a }
+
+pub stands-defined : (r : Result Held Memory) (home : List ℕ) (known : List Entry) (n : ℕ) (e : ConEntry) (c : Con) (s : Scope) → e.meaning ≡ meaning.Defined c → s.home.now ≡ home_in e.name.home home → s.depth ≡ 0 →
+    names_of s.names.now ≡ declared known [] → IfOk r (λ h. IsForm h s c.form []) → IfOk r (λ h. Stands home known n e h)
+stands-defined r home known n e c s i j d l w = IfOk-weaker r _ _ (λ h p names a. form-defined h home s.home.now names n e c i j (p (known_so s.home.now names) [] (scope-tells s known s.home.now names refl d l a) tt)) w
+
+pub held-in : (r : Result Held Memory) (env : ConEnv) (known : List Entry) (c : Con) (s : Scope) → IsKnown known env → s.home.now ≡ env.home → s.depth ≡ 0 → names_of s.names.now ≡ declared known [] →
+    IfOk r (λ h. IsForm h s c.form []) → IfOk r (λ h. Holds h (nf env c))
+held-in r env known c s k e d l w = IfOk-weaker r _ _ (λ h p. subst (λ (z : Known). Holds h (nf_with z c.form [])) (sym k.2) (p (known_so env.home k.0) [] (scope-tells s known env.home k.0 e d l k.1) tt)) w

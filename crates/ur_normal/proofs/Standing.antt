@@ -1,0 +1,91 @@
+-- What words and names stand for.
+use Rattle.std.proofs.Common.{◌≡◌, refl, ap, sym, ◌∙◌, subst, ℕ, zero, suc, ◌+◌, ◌-◌, ◌<◌, arith, Bool, true, false, ◌⊎◌, inl, inr, if◌then◌else◌, List, [], ◌∷◌, ◌++◌, length, take, get_or, Option, Some, None, Result, IfOk, Bor}
+use Rattle.std.proofs.lemmas.List.{take_more}
+use Rattle.ur_syntax.specs.declared.kind.Kind.{Kind}
+use Rattle.ur_syntax.specs.declared.kind.Kind.TheVariants as kind
+use Rattle.ur_syntax.specs.declared.con.ConName.{ConName}
+use Rattle.ur_syntax.specs.Names.{looked_up, same_con}
+use Rattle.ur_rows.specs.declared.normal.Var.TheVariants as var
+use Rattle.ur_rows.specs.declared.normal.Label.TheVariants as label
+use Rattle.ur_rows.specs.declared.normal.NormalType.{NormalType}
+use Rattle.ur_rows.specs.declared.normal.NormalType.TheVariants as ty
+use Rattle.ur_rows.specs.declared.normal.Part.{Part}
+use Rattle.ur_rows.specs.declared.normal.Normal.{Normal}
+use Rattle.ur_rows.specs.declared.normal.Normal.TheVariants as normal
+use Rattle.ur_rows.specs.declared.normal.Normal.TheBlock.{end_of-Normal as sole, more_of-Normal as the}
+use Rattle.ur_rows.specs.Made.{option_of, list_of, transaction_of, form_of, unit}
+use Rattle.ur_rows.specs.Put.{as_type, as_label, raised}
+use Rattle.ur_rows.specs.Normal.{as_function}
+use Rattle.ur_rows.proofs.Shapes.{option-made, list-made, transaction-made, form-made, fn-made}
+use Rattle.ur_normal.specs.declared.held.Held.{Held}
+use Rattle.ur_normal.specs.declared.names.Args.{Args}
+use Rattle.ur_normal.specs.declared.names.Args.TheVariants as args
+use Rattle.ur_normal.specs.declared.names.Entry.{Entry}
+use Rattle.ur_normal.specs.Walk.{declared, args_of}
+
+abbrev pub function_of : NormalType → Normal
+function_of t = normal.Fn' kind.Star tt (the (normal.Type t) sole)
+
+pub function-made : (n : Normal) (t : NormalType) → n ≡ normal.Type t → normal.Fn kind.Star n ≡ function_of t
+function-made n t e = ap (λ z. normal.Fn kind.Star z) e ∙ fn-made kind.Star (normal.Type t)
+
+pub of-option : {E : Type 0} (r : Result Normal E) (b v : NormalType) → b ≡ v → v ≡ ty.Variable (var.Bound 0) → IfOk r (λ n. n ≡ function_of (ty.Opt b)) → IfOk r (λ n. n ≡ function_of (option_of (ty.Variable (var.Bound 0))))
+of-option r b v e f k = subst (λ z. IfOk r (λ n. n ≡ function_of z)) (ap (λ z. ty.Opt z) (e ∙ f) ∙ option-made (ty.Variable (var.Bound 0))) k
+
+pub of-list : {E : Type 0} (r : Result Normal E) (b v : NormalType) → b ≡ v → v ≡ ty.Variable (var.Bound 0) → IfOk r (λ n. n ≡ function_of (ty.Many b)) → IfOk r (λ n. n ≡ function_of (list_of (ty.Variable (var.Bound 0))))
+of-list r b v e f k = subst (λ z. IfOk r (λ n. n ≡ function_of z)) (ap (λ z. ty.Many z) (e ∙ f) ∙ list-made (ty.Variable (var.Bound 0))) k
+
+pub of-transaction : {E : Type 0} (r : Result Normal E) (b v : NormalType) → b ≡ v → v ≡ ty.Variable (var.Bound 0) → IfOk r (λ n. n ≡ function_of (ty.Transaction b)) →
+    IfOk r (λ n. n ≡ function_of (transaction_of (ty.Variable (var.Bound 0))))
+of-transaction r b v e f k = subst (λ z. IfOk r (λ n. n ≡ function_of z)) (ap (λ z. ty.Transaction z) (e ∙ f) ∙ transaction-made (ty.Variable (var.Bound 0))) k
+
+pub form-empty : (r : List Part) → r ≡ [] → normal.Type (ty.Form r) ≡ normal.Type (form_of [])
+form-empty r e = ap (λ z. normal.Type (ty.Form z)) e ∙ ap (λ z. normal.Type z) (form-made [])
+
+pub body-type : (f c g : Normal) (k : Kind) → f ≡ normal.Fn k c → g ≡ c → as_function f ≡ as_type g
+body-type f c g k e h = ap as_function (e ∙ fn-made k c) ∙ ap as_type (sym h)
+
+pub function-label : (by : ℕ) (n : Normal) (k : Kind) (c : Normal) (l : List ℕ) → n ≡ normal.Fn k c → l ≡ [] → label.Literal l ≡ as_label (raised by n)
+function-label by n k c l e f = ap label.Literal f ∙ sym (ap (λ z. as_label (raised by z)) (e ∙ fn-made k c))
+
+pub function-no_type : (n : Normal) (k : Kind) (c : Normal) → n ≡ normal.Fn k c → as_type n ≡ unit
+function-no_type n k c e = ap as_type (e ∙ fn-made k c)
+
+-- ---- names
+
+pub declared-last : (xs : List Entry) (x : Entry) (known : List (ConName × (ℕ × Held))) → declared (xs ++ x ∷ []) known ≡ (x.name, (0, x.held)) ∷ declared xs known
+declared-last [] x known = refl
+declared-last (y ∷ xs) x known = declared-last xs x ((y.name, (0, y.held)) ∷ known)
+
+pub declared-more : (xs : List Entry) (n : ℕ) (x : Entry) → n < length xs → x ≡ get_or xs n x → declared (take (n + 1) xs) [] ≡ (x.name, (0, x.held)) ∷ declared (take n xs) []
+declared-more xs n x h e = ap (λ z. declared z []) (take_more xs n x h) ∙ declared-last (take n xs) (get_or xs n x) [] ∙ ap (λ (z : Entry). (z.name, (0, z.held)) ∷ declared (take n xs) []) (sym e)
+
+looked-step : (k : ConName) (xs : List Entry) (n i : ℕ) (x : Entry) → i < n → n ≡ length xs → x ≡ get_or xs (n - 1 - i) x →
+    looked_up k (declared (take (n - i) xs) []) ≡ (if same_con k x.name then Some (0, x.held) else looked_up k (declared (take (n - (i + 1)) xs) []))
+looked-step k xs n i x h l e =
+    ap (λ z. looked_up k (declared (take z xs) [])) (up n i h) ∙ ap (looked_up k) (declared-more xs (n - 1 - i) x (in-row n i (length xs) h l) e) ∙
+    ap (λ z. if same_con k x.name then Some (0, x.held) else looked_up k (declared (take z xs) [])) (down n i) where
+      up : (n i : ℕ) → i < n → n - i ≡ n - 1 - i + 1
+      up n i h = omega arith
+
+      down : (n i : ℕ) → n - 1 - i ≡ n - (i + 1)
+      down n i = omega arith
+
+      in-row : (n i m : ℕ) → i < n → n ≡ m → n - 1 - i < m
+      in-row n i m h l = omega arith
+
+pub found-here : (k : ConName) (xs : List Entry) (n i : ℕ) (x : Entry) (all : Option (ℕ × Held)) (b : Bool) → all ≡ looked_up k (declared (take (n - i) xs) []) → i < n → n ≡ length xs →
+    x ≡ get_or xs (n - 1 - i) x → b ≡ same_con k x.name → b ≡ true → Some (0, x.held) ≡ all
+found-here k xs n i x all b a h l e f g = sym (a ∙ looked-step k xs n i x h l e ∙ ap (λ z. if z then Some (0, x.held) else looked_up k (declared (take (n - (i + 1)) xs) [])) (sym f ∙ g))
+
+pub passed-here : (k : ConName) (xs : List Entry) (n i : ℕ) (x : Entry) (all : Option (ℕ × Held)) (b : Bool) → all ≡ looked_up k (declared (take (n - i) xs) []) → i < n → n ≡ length xs →
+    x ≡ get_or xs (n - 1 - i) x → b ≡ same_con k x.name → b ≡ false → all ≡ looked_up k (declared (take (n - (i + 1)) xs) [])
+passed-here k xs n i x all b a h l e f g = a ∙ looked-step k xs n i x h l e ∙ ap (λ z. if z then Some (0, x.held) else looked_up k (declared (take (n - (i + 1)) xs) [])) (sym f ∙ g)
+
+pub fewer-args : (given : Args) (x : Bor Held) (r : Bor Args) → given ≡ args.More x r → length (args_of r.now) < length (args_of given)
+fewer-args given x r i = subst (λ z. length (args_of r.now) < length (args_of z)) (sym i) (go (length (args_of r.now))) where
+  go : (n : ℕ) → n < suc n
+  go n = omega arith
+
+pub below : (m n t : ℕ) → n ≡ t → m < n → m < t
+below m n t e h = omega arith

@@ -1,0 +1,5 @@
+pub mod Mapping
+pub mod Occurs
+pub mod Held
+pub mod Listed
+pub mod Walk
