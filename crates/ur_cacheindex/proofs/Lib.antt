@@ -1,0 +1,5 @@
+pub mod Atoms
+mod Dropping
+mod Keys
+pub mod Listing
+mod Walking
