@@ -1,0 +1,5 @@
+pub mod Cached
+pub mod Entries
+pub mod Held
+pub mod Lends
+pub mod Valid
