@@ -1,0 +1,8 @@
+pub mod Facing
+pub mod Cuts
+pub mod Laws
+pub mod Named
+pub mod Listed
+pub mod Places
+pub mod Refusing
+mod Examples

@@ -1,0 +1,8 @@
+use Rattle.ur_project.proofs.Cuts.{first_cut, first_whole}
+use Rattle.ur_project.proofs.pieces.first_line.Goals as goal
+
+pub returns-then-end-bytes-clause-line : goal.returns-then-end-bytes-clause-line
+returns-then-end-bytes-clause-line c = first_cut c.args.bytes.now c.line_end-end.result c.line_end-end.ensures.first c.if-end-bytes.true c.without_return.ensures.stripped
+
+pub returns-else-end-bytes-clause-line : goal.returns-else-end-bytes-clause-line
+returns-else-end-bytes-clause-line c = first_whole c.args.bytes.now c.line_end-end.result c.requires c.line_end-end.ensures.first c.line_end-end.ensures.within c.if-end-bytes.false
