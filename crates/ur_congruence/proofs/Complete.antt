@@ -8,7 +8,7 @@ use Rattle.ur_congruence.specs.declared.terms.TermNode.{TermNode}
 use Rattle.ur_congruence.specs.declared.terms.Terms.{Terms}
 use Rattle.ur_congruence.specs.Derives.{Derives, DerivesEach, reflexive, symmetric, transitive, equation, congruence, no_more, one_more}
 use Rattle.ur_congruence.specs.Graph.{Graph}
-use Rattle.ur_congruence.specs.Terms.{Follows, IsApplied}
+use Rattle.ur_congruence.specs.Terms.{Follows, IsApplied, AreClasses}
 use Rattle.ur_congruence.specs.Labels.{labels_of, AreSound, AreClosed, KeepEquations}
 use Rattle.ur_congruence.specs.Kept.{IsSettled, IsClosed, Goes}
 use Rattle.ur_congruence.proofs.Lists.{cons_eq}
@@ -67,6 +67,16 @@ same_follows t equations c a b la lb a_in b_in e f = (
   λ same. c.sound a b a_in b_in (sym e ∙ (Decides-eqb la lb).0 same ∙ f),
   λ follows. (Decides-eqb la lb).1 (e ∙ label_eq t.nodes.keys equations t.classes.labels.items t.waiting.marks.items c.settled.current.closed c.settled.unmarked c.complete a b follows ∙ sym f),
 )
+
+-- labels are numbers of classes
+pub labels_tell : (t : Terms) (equations : List (ℕ × ℕ)) → IsClosed t equations → AreClasses (record { nodes = t.nodes.keys; equations = equations }) t.classes.labels.items
+labels_tell t equations c = record {
+  size = c.settled.kept.terms.labels_length;
+  exactly = λ s u s_in u_in. (
+    λ same. c.sound s u s_in u_in same,
+    λ follows. label_eq t.nodes.keys equations t.classes.labels.items t.waiting.marks.items c.settled.current.closed c.settled.unmarked c.complete s u follows,
+  );
+}
 
 -- one equation more
 pub closed_equated : (old new : Terms) (equations : List (ℕ × ℕ)) (a b : ℕ) → IsClosed old equations → IsSettled new → Goes old new

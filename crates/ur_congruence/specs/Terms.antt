@@ -1,5 +1,5 @@
 -- The calls of a closure.
-use Rattle.std.specs.Prelude.{◌≡◌, ◌⊎◌, ◌↔◌, ◌≢◌, ℕ, ◌<◌, List, [], ◌∷◌, ◌++◌, length, Some, Contains, All, slice_get}
+use Rattle.std.specs.Prelude.{◌≡◌, ◌⊎◌, ◌↔◌, ◌≢◌, ℕ, ◌<◌, List, [], ◌∷◌, ◌++◌, length, Some, Contains, All, slice_get, slice_index}
 use Rattle.std.specs.List.Sorted.{IsStrictlyIncreasing}
 use Rattle.ur_congruence.specs.declared.terms.TermNode.{TermNode}
 use Rattle.ur_congruence.specs.declared.terms.TermNode.TheVariants.{Apply}
@@ -32,3 +32,8 @@ pub record Equates (old new : Graph) (s t : ℕ) : Type 0 where
 pub record IsClassOf (g : Graph) (t : ℕ) (class : List ℕ) : Type 0 where
   pub rising : IsStrictlyIncreasing class
   pub exactly : (s : ℕ) → Contains class s ↔ (HasTerm g s × Follows g t s)
+
+-- a number for each term, which two terms share exactly where their equation follows
+pub record AreClasses (g : Graph) (classes : List ℕ) : Type 0 where
+  pub size : length classes ≡ length g.nodes
+  pub exactly : (s t : ℕ) → HasTerm g s → HasTerm g t → (slice_index classes s ≡ slice_index classes t) ↔ Follows g s t

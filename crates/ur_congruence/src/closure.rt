@@ -2,7 +2,7 @@
 ghost use Rattle.std.specs.Prelude.{◌≡◌, ◌+◌, ◌<◌, ◌≤◌, ◌↔◌, ◌⊎◌, [], ◌∷◌, ◌++◌, IsTrue, IfOk, OnErr, OnOk, map, length, All};
 ghost use Rattle.ur_congruence.specs.declared.terms.TermNode.TheVariants as variant;
 ghost use Rattle.ur_congruence.specs.Kept.{HasArguments};
-ghost use Rattle.ur_congruence.specs.Terms.{Follows, HasTerm, IsNumberOf, Equates, IsClassOf};
+ghost use Rattle.ur_congruence.specs.Terms.{Follows, HasTerm, IsNumberOf, Equates, IsClassOf, AreClasses};
 
 use crate::terms::{TermNode, Terms};
 use std::alloc::Global;
@@ -148,6 +148,13 @@ impl Closure {
         let mut numbers = self.terms.classes.members(self.alloc, label)?;
         numbers.sort_unstable();
         terms_of(self.alloc, numbers.as_slice())
+    }
+
+    /// A number for the class of each term: two terms share it exactly where their equation follows.
+    pub fn classes(&self) -> Result<List<u32>, Memory>
+        ensures { IfOk result (λ classes. AreClasses self.now classes) }
+    {
+        List::from_slice(self.alloc, self.terms.classes.labels.as_slice())
     }
 }
 

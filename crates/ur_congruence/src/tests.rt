@@ -215,3 +215,25 @@ fn members_after_three_merges(rt: HostRuntime) -> Result<(), Fail> {
     assert_eq!(rt; alone.as_slice(), [Term { number: 2 }].as_slice());
     Ok(())
 }
+
+/// Whether two terms have one number in the list.
+fn share(classes: &List<u32>, a: usize, b: usize) -> Option<bool> {
+    Some(*classes.get(a)? == *classes.get(b)?)
+}
+
+#[test]
+fn classes_are_shared_where_an_equation_follows(rt: HostRuntime) -> Result<(), Fail> {
+    let steps = [
+        Step::Variable(0, 0),
+        Step::Variable(1, 1),
+        Step::Apply(7, 0, 2),
+        Step::Apply(7, 1, 3),
+        Step::Equate(0, 1),
+    ];
+    let mut closure = Closure::new(rt.alloc());
+    assert_eq!(rt; first_wrong(&mut closure, &steps)?, None);
+    let classes = closure.classes()?;
+    assert_eq!(rt; share(&classes, 2, 3), Some(true));
+    assert_eq!(rt; share(&classes, 0, 2), Some(false));
+    Ok(())
+}
