@@ -1,6 +1,6 @@
 -- Rules that are told apart by the token at the begin, and parts that end before a token.
-use Rattle.std.specs.Prelude.{◌≡◌, ◌⊎◌, ℕ, suc, true, false, ◌+◌, Bool, ◌||◌, if◌then◌else◌, List, [], ◌∷◌, ◌++◌, drop, slice_get, Option, Some, None, refl}
-use Rattle.std.proofs.Common.{sym, inl, inr, ap, subst, ◌∙◌, append_assoc}
+use Rattle.std.specs.Prelude.{◌≡◌, ◌⊎◌, ℕ, suc, true, false, ◌+◌, Bool, ◌||◌, if◌then◌else◌, List, [], ◌∷◌, ◌++◌, drop, slice_get, Some, None, refl}
+use Rattle.std.proofs.Common.{sym, inl, inr, ap, subst, ◌∙◌}
 use Rattle.std.proofs.lemmas.List.{append-nil}
 use Rattle.std.proofs.lemmas.Bool.{eqb-true}
 use Rattle.ur_base.specs.declared.refusal.Span.{Span}
@@ -8,16 +8,16 @@ use Rattle.ur_lex.specs.declared.token.TokenKind.{TokenKind}
 use Rattle.ur_lex.specs.declared.token.TokenKind.TheVariants as token_kind
 use Rattle.ur_lex.specs.declared.token.Lexeme.{Lexeme}
 use Rattle.ur_lex.specs.Spelling.{Text}
-use Rattle.ur_grammar.specs.Rules.{Slot, mark, word, name, number, one, Values, Rule, Grammar, Sym, part, filled, AnyOf, Builds, Spells, Stops}
-use Rattle.ur_grammar.specs.KindNumbers.{same_kind, kind_number, keyword_number, symbol_number, all_kinds}
-use Rattle.ur_grammar.specs.Places.{At, IsAt, IsName, Other, OfKind, Spelled, starts, only, never}
+use Rattle.ur_grammar.specs.Rules.{Slot, mark, word, name, number, among, one, Values, Rule, Grammar, Sym, part, filled, AnyOf, Builds, Spells, Stops}
+use Rattle.ur_grammar.specs.KindNumbers.{is_one, same_kind, kind_number, keyword_number, symbol_number, all_kinds}
+use Rattle.ur_grammar.specs.Places.{IsAt, IsName, Other, OfKind, Spelled, starts, only, never}
 use Rattle.ur_lex.specs.declared.token.Keyword.{Keyword}
 use Rattle.ur_lex.specs.declared.token.Keyword.TheVariants as keyword
 use Rattle.ur_lex.specs.declared.token.Symbol.{Symbol}
 use Rattle.ur_lex.specs.declared.token.Symbol.TheVariants as symbol
-use Rattle.ur_grammar.proofs.Inversions.{nothing-out, token-out, no_plain, no_spelled, no_named, no_counted, part-out, produced-out}
+use Rattle.ur_grammar.proofs.Inversions.{nothing-out, token-out, no_plain, no_spelled, no_named, no_counted, no_token_of, part-out, produced-out}
 use Rattle.ur_grammar.proofs.Once.{Ends, Fits, AllChosen}
-use Rattle.ur_grammar.proofs.Steps.{Lacks, Fills}
+use Rattle.ur_grammar.proofs.Steps.{Lacks}
 
 -- a choice by the token at the begin, or at the end of the tokens
 abbrev pub by_first : (TokenKind → Text → ℕ) → ℕ → List Lexeme → ℕ
@@ -131,6 +131,7 @@ module _ {N : Type 0} {Tree : N → Type 0} (G : Grammar Tree) where
   BeginsIn g (word k w ∷ slots) = g k w ≡ true
   BeginsIn g (name k ok ∷ slots) = (w : Text) → ok w ≡ true → g k w ≡ true
   BeginsIn g (number ∷ slots) = (n : ℕ) (w : Text) → g (token_kind.Int n) w ≡ true
+  BeginsIn g (among ks ∷ slots) = (k : TokenKind) (w : Text) → is_one ks k ≡ true → g k w ≡ true
   BeginsIn g (one p ∷ slots) = Begins g p
 
   abbrev pub AllBegin : {T : Type 0} → (TokenKind → Text → Bool) → List (Rule Tree T) → Type 0
@@ -144,6 +145,7 @@ module _ {N : Type 0} {Tree : N → Type 0} (G : Grammar Tree) where
   slots_begin g (word k w ∷ slots) h n v taken s = let o = token-out G (no_spelled G) s in let e = o.3.0 in let f = o.3.1 in (o.0, o.1, o.2, rw (e, f) h)
   slots_begin g (name k ok ∷ slots) h n v taken s = let o = token-out G (no_named G) s in let e = o.3.0 in (o.0, o.1, o.2, rw e (h o.0.content (ap ok o.3.1 ∙ o.3.2)))
   slots_begin g (number ∷ slots) h n v taken s = let o = token-out G (no_counted G) s in let e = o.3 in (o.0, o.1, o.2, rw e (h v.0 o.0.content))
+  slots_begin g (among ks ∷ slots) h n v taken s = let o = token-out G (no_token_of G) s in (o.0, o.1, o.2, h o.0.kind o.0.content o.3.1)
   slots_begin g (one p ∷ slots) h n v taken s = let o = part-out G s in let b = h.begin n v.0 o.0 o.3 in (b.0, b.1 ++ o.1, o.2 ∙ ap (λ z. z ++ o.1) b.2, b.3)
 
   rules_begin : (g : TokenKind → Text → Bool) (p : N) (rs : List (Rule Tree (Tree p))) → AllBegin g rs → (n : ℕ) (x : Tree p) (q : List (Sym Tree)) (taken : List Lexeme) → AnyOf (Builds G p x q taken) rs → Spells G n q taken →
@@ -177,6 +179,7 @@ module _ {N : Type 0} {Tree : N → Type 0} (G : Grammar Tree) where
   slots_tail k (word k' w ∷ slots) h n v taken s = absurd h
   slots_tail k (name k' ok ∷ slots) h n v taken s = absurd h
   slots_tail k (number ∷ slots) h n v taken s = absurd h
+  slots_tail k (among ks ∷ slots) h n v taken s = absurd h
   slots_tail k (one p ∷ slots) h n v taken s = absurd h
 
   rules_tail : (k : TokenKind) (p : N) (rs : List (Rule Tree (Tree p))) → AllTail k rs → (n : ℕ) (x : Tree p) (q : List (Sym Tree)) (taken : List Lexeme) → AnyOf (Builds G p x q taken) rs → Spells G n q taken →

@@ -1,12 +1,12 @@
 -- Derivations taken apart and put together.
-use Rattle.std.specs.Prelude.{◌≡◌, ◌⊎◌, ℕ, zero, suc, true, false, ◌+◌, ◌<◌, ◌≤◌, Bool, List, [], ◌∷◌, ◌++◌, length, refl}
-use Rattle.std.proofs.Common.{arith, append_assoc, sym, inl, inr, ap, subst, ◌∙◌}
-use Rattle.std.proofs.lemmas.List.{append-nil, append_cancel_right}
+use Rattle.std.specs.Prelude.{◌≡◌, ℕ, true, false, ◌+◌, ◌≤◌, Bool, List, [], ◌∷◌, ◌++◌, refl}
+use Rattle.std.proofs.Common.{arith, append_assoc, sym, ap, subst, ◌∙◌}
+use Rattle.std.proofs.lemmas.List.{append-nil}
 use Rattle.ur_base.specs.declared.refusal.Span.{Span}
 use Rattle.ur_lex.specs.declared.token.TokenKind.{TokenKind}
 use Rattle.ur_lex.specs.declared.token.Lexeme.{Lexeme}
 use Rattle.ur_lex.specs.Spelling.{Text}
-use Rattle.ur_grammar.specs.Rules.{Slot, mark, word, name, number, one, Values, Rule, Grammar, Sym, plain, spelled, named, counted, part, filled, IsToken, IsSpan, AnyOf, Builds, Spells, end, token, produced, Open, here, past, within, Stops}
+use Rattle.ur_grammar.specs.Rules.{Slot, one, Grammar, Sym, plain, spelled, named, counted, token_of, part, IsToken, IsSpan, AnyOf, Builds, Spells, end, token, produced, Open, here, past, within}
 
 pub pair_same : {A B : Type 0} {a : A} {b : B} {p : A × B} → a ≡ p.0 → b ≡ p.1 → (a, b) ≡ p
 pair_same {b = b} {p = p} e f = ap (λ z. (z, b)) e ∙ ap (λ z. (p.0, z)) f
@@ -51,6 +51,9 @@ module _ {N : Type 0} {Tree : N → Type 0} (G : Grammar Tree) where
 
   pub no_counted : {n : ℕ} → NoPart (counted n)
   no_counted p x e = cc
+
+  pub no_token_of : {ks : List TokenKind} {t : Lexeme} → NoPart (token_of ks t)
+  no_token_of p x e = cc
 
   -- the first part alone, and what is behind it
   pub part-out : {n : ℕ} {p : N} {x : Tree p} {symbols : List (Sym Tree)} {tokens : List Lexeme} (d : Spells G n (part p x ∷ symbols) tokens) →

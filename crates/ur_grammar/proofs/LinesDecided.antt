@@ -1,5 +1,5 @@
 -- The small grammar of open ends is read in one way.
-use Rattle.std.specs.Prelude.{◌≡◌, ◌⊎◌, ℕ, Bool, true, false, not, ◌&&◌, ◌||◌, if◌then◌else◌, List, [], ◌∷◌, ◌++◌, Option, Some, None, refl}
+use Rattle.std.specs.Prelude.{◌≡◌, ℕ, Bool, true, false, not, ◌&&◌, ◌||◌, if◌then◌else◌, List, [], ◌∷◌, ◌++◌, Option, Some, None, refl}
 use Rattle.std.proofs.Common.{sym, ◌∙◌, ap, inl, inr, subst}
 use Rattle.std.proofs.lemmas.List.{append-nil}
 use Rattle.ur_lex.specs.declared.token.Keyword.TheVariants as keyword
@@ -8,13 +8,11 @@ use Rattle.ur_lex.specs.declared.token.TokenKind.{TokenKind}
 use Rattle.ur_lex.specs.declared.token.TokenKind.TheVariants as token
 use Rattle.ur_lex.specs.declared.token.Lexeme.{Lexeme}
 use Rattle.ur_lex.specs.Spelling.{Text}
-use Rattle.ur_grammar.specs.Rules.{Stops, Sym, part, one, mark, filled, AnyOf, Builds, Spells}
-use Rattle.ur_grammar.specs.KindNumbers.{same_kind}
-use Rattle.ur_grammar.specs.Places.{never, only, any}
+use Rattle.ur_grammar.specs.Rules.{Stops, Sym, part, AnyOf, Builds, Spells}
 use Rattle.ur_grammar.specs.Lines.{Exp, Ended, Part, Tree, exp, rest, line, atom, branches, more_branches, rules, lines, more, more_exp, more_line, semicolon, bar, followed, may_follow, may_branch}
 use Rattle.ur_grammar.proofs.Inversions.{produced-out, part-out, nothing-out, token-out, no_plain}
-use Rattle.ur_grammar.proofs.Once.{Decided, Ends, Fits}
-use Rattle.ur_grammar.proofs.Choices.{by_first, all_chosen, chosen_mark, chosen_name, chosen_one, chosen_none, then_mark, then_any, then_end, less, if_true, if_false, Begins, begins_by}
+use Rattle.ur_grammar.proofs.Once.{Decided}
+use Rattle.ur_grammar.proofs.Choices.{by_first, all_chosen, chosen_mark, chosen_name, chosen_one, chosen_none, then_mark, then_any, then_end, less, if_false, Begins, begins_by}
 
 abbrev pub line_first : TokenKind → Text → ℕ
 line_first (token.Keyword keyword.If) w = 0

@@ -1,15 +1,15 @@
 -- A list of tokens has one tree: where the rules of each nonterminal are told apart by the tokens, and each part of a rule
 -- ends before what follows it.
-use Rattle.std.specs.Prelude.{◌≡◌, ◌⊎◌, ℕ, zero, suc, true, false, ◌+◌, ◌<◌, ◌≤◌, Bool, List, [], ◌∷◌, ◌++◌, length, refl}
+use Rattle.std.specs.Prelude.{◌≡◌, ℕ, zero, suc, true, ◌+◌, ◌<◌, ◌≤◌, Bool, List, [], ◌∷◌, ◌++◌, refl}
 use Rattle.std.proofs.Common.{arith, append_assoc, sym, inl, inr, ap, subst, ◌∙◌}
-use Rattle.std.proofs.lemmas.List.{append-nil, append_cancel_right}
+use Rattle.std.proofs.lemmas.List.{append_cancel_right}
 use Rattle.ur_base.specs.declared.refusal.Span.{Span}
 use Rattle.ur_lex.specs.declared.token.TokenKind.{TokenKind}
 use Rattle.ur_lex.specs.declared.token.TokenKind.TheVariants as token_kind
 use Rattle.ur_lex.specs.declared.token.Lexeme.{Lexeme}
 use Rattle.ur_lex.specs.Spelling.{Text}
-use Rattle.ur_grammar.specs.Rules.{Slot, mark, word, name, number, one, Values, Rule, Grammar, Sym, plain, spelled, named, counted, part, filled, IsToken, IsSpan, AnyOf, Builds, Spells, Stops, Read, OneTree}
-use Rattle.ur_grammar.proofs.Inversions.{pair_same, span_same, height, height-subst, nothing-out, token-out, no_plain, no_spelled, no_named, no_counted, part-out, produced-out}
+use Rattle.ur_grammar.specs.Rules.{Slot, mark, word, name, number, among, one, Values, Rule, Grammar, Sym, part, filled, IsSpan, AnyOf, Builds, Spells, Stops, Read, OneTree}
+use Rattle.ur_grammar.proofs.Inversions.{pair_same, span_same, height, height-subst, nothing-out, token-out, no_plain, no_spelled, no_named, no_counted, no_token_of, part-out, produced-out}
 
 module _ {N : Type 0} {Tree : N → Type 0} (G : Grammar Tree) where
   -- what a rule gives for these values may end before these tokens
@@ -29,6 +29,7 @@ module _ {N : Type 0} {Tree : N → Type 0} (G : Grammar Tree) where
   AfterEach (word k w ∷ slots) P = AfterEach slots P
   AfterEach (name k ok ∷ slots) P = (w : Text) → AfterEach slots (λ v rest. P (w, v) rest)
   AfterEach (number ∷ slots) P = (n : ℕ) → AfterEach slots (λ v rest. P (n, v) rest)
+  AfterEach (among ks ∷ slots) P = (t : Lexeme) → AfterEach slots (λ v rest. P (t, v) rest)
   AfterEach (one q ∷ slots) P = (x : Tree q) → (Ends (G.more q x) slots (λ v rest. P (x, v) rest) × AfterEach slots (λ v rest. P (x, v) rest))
 
   abbrev pub AllAfter : (p : N) → List (Rule Tree (Tree p)) → Type 0
@@ -70,6 +71,11 @@ module _ {N : Type 0} {Tree : N → Type 0} (G : Grammar Tree) where
   slots_once k ih (number ∷ slots) P a v v' n m ts ts' rest rest' d h e q pv pv' = let o = token-out G (no_counted G) d in let o' = token-out G (no_counted G) e in let l = o.5 in
       let s : (o.0 ∷ o.1) ++ rest ≡ (o'.0 ∷ o'.1) ++ rest' = ap (λ y. y ++ rest) (sym o.2) ∙ q ∙ ap (λ y. y ++ rest') o'.2 in
       let t : o.0 ≡ o'.0 = cc in let i : token_kind.Int v.0 ≡ token_kind.Int v'.0 = sym o.3 ∙ ap (λ (y : Lexeme). y.kind) t ∙ o'.3 in let w : v.0 ≡ v'.0 = cc in
+      let r = slots_once k ih slots (λ u rest. P (v.0, u) rest) (a v.0) v.1 v'.1 n m o.1 o'.1 rest rest' o.4 (omega (arith, h, l)) o'.4 (cc) pv (subst (λ y. P (y, v'.1) rest') (sym w) pv') in
+      (pair_same w r.0, r.1)
+  slots_once k ih (among ks ∷ slots) P a v v' n m ts ts' rest rest' d h e q pv pv' = let o = token-out G (no_token_of G) d in let o' = token-out G (no_token_of G) e in let l = o.5 in
+      let s : (o.0 ∷ o.1) ++ rest ≡ (o'.0 ∷ o'.1) ++ rest' = ap (λ y. y ++ rest) (sym o.2) ∙ q ∙ ap (λ y. y ++ rest') o'.2 in
+      let t : o.0 ≡ o'.0 = cc in let w : v.0 ≡ v'.0 = sym o.3.0 ∙ t ∙ o'.3.0 in
       let r = slots_once k ih slots (λ u rest. P (v.0, u) rest) (a v.0) v.1 v'.1 n m o.1 o'.1 rest rest' o.4 (omega (arith, h, l)) o'.4 (cc) pv (subst (λ y. P (y, v'.1) rest') (sym w) pv') in
       (pair_same w r.0, r.1)
   slots_once k ih (one p ∷ slots) P a v v' n m ts ts' rest rest' d h e q pv pv' = let o = part-out G d in let o' = part-out G e in let l = o.4 in let l' = o.6 in

@@ -1,8 +1,7 @@
 -- How readers of slots and rules are put together.
-use Rattle.std.specs.Prelude.{◌≡◌, ◌⊎◌, ℕ, zero, suc, true, false, ◌+◌, ◌<◌, ◌≤◌, Bool, List, [], ◌∷◌, ◌++◌, length, drop, refl, codes, Result, Ok, Err, IfOk}
+use Rattle.std.specs.Prelude.{◌≡◌, ◌⊎◌, ℕ, zero, suc, true, ◌+◌, ◌≤◌, Bool, List, [], ◌∷◌, ◌++◌, drop, refl, codes, Result, Ok, Err, IfOk}
 use Rattle.std.specs.Result.{IsErrAnd}
 use Rattle.std.proofs.Common.{arith, append_assoc, sym, inl, inr, ap, subst, ◌∙◌}
-use Rattle.std.proofs.lemmas.List.{append-nil}
 use Rattle.ur_base.specs.declared.refusal.Span.{Span}
 use Rattle.ur_base.specs.declared.refusal.Refusal.{Refusal}
 use Rattle.ur_base.specs.declared.refusal.Stop.{Stop}
@@ -12,9 +11,9 @@ use Rattle.ur_lex.specs.declared.token.TokenKind.{TokenKind}
 use Rattle.ur_lex.specs.declared.token.TokenKind.TheVariants as token_kind
 use Rattle.ur_lex.specs.declared.token.Lexeme.{Lexeme}
 use Rattle.ur_lex.specs.Spelling.{Text}
-use Rattle.ur_grammar.specs.Rules.{Slot, mark, word, name, number, one, Values, Rule, Grammar, Sym, plain, spelled, named, counted, part, filled, IsToken, IsSpan, AnyOf, Builds, Spells, end, token, produced, Open, here, past, within, Stops, Read, NoneReads, Missing, TooDeep, Refused, syntax, nested}
-use Rattle.ur_grammar.specs.Places.{At, IsAt, IsName, Other, Unexpected, OfKind, Spelled, Passing, SaysSyntax, SaysDeep, OfRefusal, IfRefused}
-use Rattle.ur_grammar.proofs.Inversions.{height, nothing-out, token-out, no_plain, no_spelled, no_named, no_counted, part-out, produced-out, wider, append, by, open_longer}
+use Rattle.ur_grammar.specs.Rules.{Slot, mark, word, name, number, among, one, Values, Rule, Grammar, Sym, plain, spelled, named, counted, token_of, part, filled, IsToken, IsSpan, AnyOf, Builds, Spells, end, token, Open, here, past, within, Stops, Read, Missing, TooDeep, Refused, syntax, nested}
+use Rattle.ur_grammar.specs.Places.{IsAt, IsName, Other, Unexpected, OfKind, Spelled, Passing, Among, SaysSyntax, SaysDeep, OfRefusal, IfRefused}
+use Rattle.ur_grammar.proofs.Inversions.{token-out, no_plain, no_spelled, no_named, no_token_of, part-out, produced-out, wider, append, by, open_longer}
 use Rattle.ur_grammar.proofs.Once.{Fits, AfterEach, AllAfter, Decided, AllChosen, read_once, tail_chosen}
 
 module _ {N : Type 0} {Tree : N → Type 0} (G : Grammar Tree) where
@@ -71,7 +70,7 @@ OfNth zero (r ∷ rs) P = P r
 OfNth (suc n) (r ∷ rs) P = OfNth n rs P
 
 -- what stands at a place is first there
-same_token : {tokens : List Lexeme} {i j : ℕ} {Is : Lexeme → Type 0} (a : IsAt tokens i j Is) (t : Lexeme) (us : List Lexeme) → drop i tokens ≡ t ∷ us → (a.t ≡ t) × (drop j tokens ≡ us)
+pub same_token : {tokens : List Lexeme} {i j : ℕ} {Is : Lexeme → Type 0} (a : IsAt tokens i j Is) (t : Lexeme) (us : List Lexeme) → drop i tokens ≡ t ∷ us → (a.t ≡ t) × (drop j tokens ≡ us)
 same_token {tokens = tokens} {i = i} a t us e = let s : a.t ∷ drop (i + 1) tokens ≡ t ∷ us = sym a.at.split ∙ e in let n = a.next in (cc, rw n (cc))
 
 -- no token of this kind is a name that passes
@@ -104,6 +103,10 @@ module _ {N : Type 0} {Tree : N → Type 0} {G : Grammar Tree} where
       Fills G n (number ∷ slots) (drop i tokens) rest (m, v)
   a_number {m = m} a f = record { taken = a.t ∷ f.taken; split = a.at.split ∙ ap (λ z. a.t ∷ z) (rw a.next at f.split); spells = token {s = counted m} a.is f.spells }
 
+  pub a_token : {n : ℕ} {slots : List (Slot N)} {tokens rest : List Lexeme} {i j : ℕ} {ks : List TokenKind} {v : Values Tree slots} (a : IsAt tokens i j (Among ks)) → Fills G n slots (drop j tokens) rest v →
+      Fills G n (among ks ∷ slots) (drop i tokens) rest (a.t, v)
+  a_token {ks = ks} a f = record { taken = a.t ∷ f.taken; split = a.at.split ∙ ap (λ z. a.t ∷ z) (rw a.next at f.split); spells = token {s = token_of ks a.t} (refl, a.is) f.spells }
+
   pub an_one : {n : ℕ} {slots : List (Slot N)} {tokens mid rest : List Lexeme} {p : N} {x : Tree p} {v : Values Tree slots} → Read G n p tokens mid x → Fills G n slots mid rest v →
       Fills G n (one p ∷ slots) tokens rest (x, v)
   an_one {rest = rest} r f = record {
@@ -115,7 +118,7 @@ module _ {N : Type 0} {Tree : N → Type 0} {G : Grammar Tree} where
   -- ---- slots that are not read
 
   -- filled slots that begin with a token
-  token_back : {n : ℕ} {s : Sym Tree} {symbols : List (Sym Tree)} (f : (p : N) (x : Tree p) → s ≡ part p x → ⊥) (tokens taken rest : List Lexeme) → tokens ≡ taken ++ rest → Spells G n (s ∷ symbols) taken →
+  pub token_back : {n : ℕ} {s : Sym Tree} {symbols : List (Sym Tree)} (f : (p : N) (x : Tree p) → s ≡ part p x → ⊥) (tokens taken rest : List Lexeme) → tokens ≡ taken ++ rest → Spells G n (s ∷ symbols) taken →
       (t : Lexeme) × (us : List Lexeme) × (tokens ≡ t ∷ (us ++ rest)) × IsToken s t × Spells G n symbols us
   token_back f tokens taken rest e d = let o = token-out G f d in (o.0, o.1, e ∙ ap (λ z. z ++ rest) o.2, o.3, o.4)
 
@@ -130,6 +133,9 @@ module _ {N : Type 0} {Tree : N → Type 0} {G : Grammar Tree} where
     none = λ n v rest f. let b = token_back (no_named G) (drop i tokens) f.taken rest f.split f.spells in o.other b.0 (b.1 ++ rest) b.2 (b.3.0, ap ok b.3.1 ∙ b.3.2);
   }
 
+  pub not_among : {slots : List (Slot N)} {tokens : List Lexeme} {i : ℕ} {ks : List TokenKind} → Other tokens i (Among ks) → Lacks G (among ks ∷ slots) (drop i tokens)
+  not_among {tokens = tokens} {i = i} o = record { none = λ n v rest f. let b = token_back (no_token_of G) (drop i tokens) f.taken rest f.split f.spells in o.other b.0 (b.1 ++ rest) b.2 b.3.1 }
+
   lacking : {n : ℕ} {slots : List (Slot N)} {tokens : List Lexeme} {r : Refusal} {P : Values Tree slots → List Lexeme → Type 0} → Says r 5 [] [] → Lacks G slots tokens → Failing G n slots P tokens r
   lacking says l = record { fails = λ a. wrong says (λ m v rest f pv. l.none m v rest f) }
 
@@ -142,6 +148,22 @@ module _ {N : Type 0} {Tree : N → Type 0} {G : Grammar Tree} where
 
     pub no_name : {ok : Text → Bool} {P : Text × Values Tree slots → List Lexeme → Type 0} → Unexpected tokens i (Passing k ok) r → Failing G n (name k ok ∷ slots) P (drop i tokens) r
     no_name u = lacking u.says (not_name u.other)
+
+  pub no_among : {n : ℕ} {slots : List (Slot N)} {tokens : List Lexeme} {i : ℕ} {ks : List TokenKind} {r : Refusal} {P : Lexeme × Values Tree slots → List Lexeme → Type 0} → Unexpected tokens i (Among ks) r → Failing G n (among ks ∷ slots) P (drop i tokens) r
+  no_among u = lacking u.says (not_among u.other)
+
+  pub among_read : {n : ℕ} {slots : List (Slot N)} {tokens : List Lexeme} {i j : ℕ} {ks : List TokenKind} {r : Refusal} {P : Lexeme × Values Tree slots → List Lexeme → Type 0} (a : IsAt tokens i j (Among ks)) →
+      Failing G n slots (λ v rest. P (a.t, v) rest) (drop j tokens) r → Failing G n (among ks ∷ slots) P (drop i tokens) r
+  among_read {tokens = tokens} {i = i} {ks = ks} {P = P} a h = record {
+    fails = λ after. elim (h.fails (after a.t)) [
+      | wrong says none ↦ wrong says (λ m v rest f pv. let b = token_back (no_token_of G) (drop i tokens) f.taken rest f.split f.spells in let s = same_token a b.0 (b.1 ++ rest) b.2 in
+          none m v.1 rest (record { taken = b.1; split = s.1; spells = b.4 }) (subst (λ z. P (z, v.1) rest) (sym (s.0 ∙ b.3.0)) pv))
+      | deep taken rest says none split opened ↦ deep (a.t ∷ taken) rest says
+          (λ v rest f pv. let b = token_back (no_token_of G) (drop i tokens) f.taken rest f.split f.spells in let s = same_token a b.0 (b.1 ++ rest) b.2 in
+          none v.1 rest (record { taken = b.1; split = s.1; spells = b.4 }) (subst (λ z. P (z, v.1) rest) (sym (s.0 ∙ b.3.0)) pv))
+          (a.at.split ∙ ap (λ z. a.t ∷ z) (rw a.next at split)) (past {m = 0} {inner = a.t ∷ []} (a.t, tt) (token {s = token_of ks a.t} (refl, a.is) end) opened)
+    ];
+  }
 
   module _ {n : ℕ} {slots : List (Slot N)} {tokens : List Lexeme} {i j : ℕ} {k : TokenKind} {r : Refusal} where
     pub mark_read : {P : Values Tree slots → List Lexeme → Type 0} → IsAt tokens i j (OfKind k) → Failing G n slots P (drop j tokens) r → Failing G n (mark k ∷ slots) P (drop i tokens) r

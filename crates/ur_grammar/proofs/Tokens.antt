@@ -1,5 +1,5 @@
 -- The token at a place.
-use Rattle.std.proofs.Common.{◌≡◌, ◌⊎◌, ℕ, ◌+◌, ◌<◌, ◌≤◌, ◌^◌, Bool, true, false, List, [], ◌∷◌, length, drop, Option, Some, None, refl, sym, ◌∙◌, ap, inl, inr, arith, add-one, drop-cons, get_or, ◌++◌, ◌-◌, length-append, length-drop}
+use Rattle.std.proofs.Common.{◌≡◌, ℕ, ◌+◌, ◌<◌, ◌≤◌, ◌^◌, Bool, true, false, List, ◌∷◌, length, drop, Some, refl, sym, ◌∙◌, ap, inl, inr, arith, add-one, drop-cons, get_or, ◌++◌, ◌-◌, length-append, length-drop}
 use Rattle.std.specs.Prelude.{slice_get, IfSome}
 use Rattle.std.proofs.lemmas.Option.{slice_get_cases, slice_get_read}
 use Rattle.std.proofs.lemmas.List.{get_or-drop, get_or_append_left}
@@ -8,8 +8,7 @@ use Rattle.ur_base.specs.declared.refusal.Span.{Span}
 use Rattle.ur_lex.specs.declared.token.TokenKind.{TokenKind}
 use Rattle.ur_lex.specs.declared.token.Lexeme.{Lexeme}
 use Rattle.ur_lex.specs.Spelling.{Text}
-use Rattle.ur_lex.specs.declared.token.TokenKind.TheVariants as token
-use Rattle.ur_grammar.specs.Places.{At, IsAt, IsName, Other, Sees, starts, Moves, span_of, span_between, OfKind, Passing, any}
+use Rattle.ur_grammar.specs.Places.{At, IsAt, IsName, Other, Sees, starts, Moves, span_of, OfKind, Passing, any}
 
 pub at_place : (tokens : List Lexeme) (i : ℕ) (t : Lexeme) → i < length tokens → i + 1 < 2 ^ 64 → get_or tokens i t ≡ t → At tokens i t
 at_place tokens i t l f e = record { below = l; fits = f; split = let z : drop i tokens ≡ get_or tokens i t ∷ drop (i + 1) tokens = rw add-one (drop-cons tokens i t l) in rw e at z }

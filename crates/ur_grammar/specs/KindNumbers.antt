@@ -1,5 +1,5 @@
 -- Kinds of tokens told apart by a number, ints of any value having one.
-use Rattle.std.specs.Prelude.{ℕ, Bool, ◌==◌, List, [], ◌∷◌}
+use Rattle.std.specs.Prelude.{ℕ, Bool, false, ◌||◌, ◌==◌, List, [], ◌∷◌}
 use Rattle.ur_lex.specs.declared.token.Keyword.{Keyword}
 use Rattle.ur_lex.specs.declared.token.Keyword.TheVariants as keyword
 use Rattle.ur_lex.specs.declared.token.Symbol.{Symbol}
@@ -87,3 +87,8 @@ all_kinds = token.Lower ∷ token.Upper ∷ token.Str ∷ token.SqlText ∷ toke
 -- whether two kinds are the same, ints of any value being one
 abbrev pub same_kind : TokenKind → TokenKind → Bool
 same_kind a b = kind_number a == kind_number b
+
+-- whether a kind is one of these
+abbrev pub is_one : List TokenKind → TokenKind → Bool
+is_one [] k = false
+is_one (a ∷ as_) k = same_kind a k || is_one as_ k

@@ -2,3 +2,4 @@ pub mod KindNumbers
 pub mod Rules
 pub mod Places
 pub mod Lines
+pub mod Numbers

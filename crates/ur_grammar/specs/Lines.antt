@@ -6,7 +6,6 @@ use Rattle.ur_lex.specs.declared.token.TokenKind.{TokenKind}
 use Rattle.ur_lex.specs.declared.token.TokenKind.TheVariants as token
 use Rattle.ur_lex.specs.Spelling.{Text}
 use Rattle.ur_grammar.specs.Rules.{Slot, mark, name, one, Values, Rule, Grammar}
-use Rattle.ur_grammar.specs.KindNumbers.{same_kind}
 use Rattle.ur_grammar.specs.Places.{never, only, any, always}
 
 pub data Exp : Type 0 where

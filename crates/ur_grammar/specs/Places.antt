@@ -1,5 +1,5 @@
 -- What readers at a place of the tokens see and answer.
-use Rattle.std.specs.Prelude.{◌≡◌, ◌<◌, ◌≤◌, ◌+◌, ◌-◌, ◌^◌, ℕ, Bool, true, false, ◌&&◌, codes, List, [], ◌∷◌, length, drop, slice_get, Option, Some, None, Result, Ok, Err, ⊤}
+use Rattle.std.specs.Prelude.{◌≡◌, ◌<◌, ◌≤◌, ◌+◌, ◌-◌, ◌^◌, ℕ, Bool, true, false, codes, List, [], ◌∷◌, length, drop, slice_get, Option, Some, None, Result, Ok, Err, ⊤}
 use Rattle.ur_base.specs.declared.refusal.Refusal.{Refusal}
 use Rattle.ur_base.specs.declared.refusal.Span.{Span}
 use Rattle.ur_base.specs.declared.refusal.Stop.{Stop}
@@ -8,7 +8,7 @@ use Rattle.ur_base.specs.Stopping.{Says}
 use Rattle.ur_lex.specs.declared.token.TokenKind.{TokenKind}
 use Rattle.ur_lex.specs.declared.token.Lexeme.{Lexeme}
 use Rattle.ur_lex.specs.Spelling.{Text}
-use Rattle.ur_grammar.specs.KindNumbers.{same_kind}
+use Rattle.ur_grammar.specs.KindNumbers.{same_kind, is_one}
 use Rattle.ur_grammar.specs.Rules.{Grammar, Read, Refused, no_span}
 
 -- the token at a place
@@ -45,6 +45,10 @@ OfKind k t = t.kind ≡ k
 -- and spelled so
 abbrev pub Spelled : TokenKind → Text → Lexeme → Type 0
 Spelled k w t = (t.kind ≡ k) × (t.content ≡ w)
+
+-- it is of one of these kinds
+abbrev pub Among : List TokenKind → Lexeme → Type 0
+Among ks t = is_one ks t.kind ≡ true
 
 -- and its content passes a test
 abbrev pub Passing : TokenKind → (Text → Bool) → Lexeme → Type 0

@@ -7,6 +7,7 @@ use Rattle.ur_lex.specs.declared.token.TokenKind.{TokenKind}
 use Rattle.ur_lex.specs.declared.token.TokenKind.TheVariants as token_kind
 use Rattle.ur_lex.specs.declared.token.Lexeme.{Lexeme}
 use Rattle.ur_lex.specs.Spelling.{Text}
+use Rattle.ur_grammar.specs.KindNumbers.{is_one}
 
 -- What a rule is made of.
 pub data Slot (N : Type 0) : Type 0 where
@@ -18,6 +19,8 @@ pub data Slot (N : Type 0) : Type 0 where
   name : TokenKind → (Text → Bool) → Slot N
   -- an int; its value is the number
   number : Slot N
+  -- a token of one of these kinds; its value is the token
+  among : List TokenKind → Slot N
   -- a nonterminal; its value is its tree
   one : N → Slot N
 
@@ -28,6 +31,7 @@ Values Tree (mark k ∷ slots) = Values Tree slots
 Values Tree (word k w ∷ slots) = Values Tree slots
 Values Tree (name k ok ∷ slots) = Text × Values Tree slots
 Values Tree (number ∷ slots) = ℕ × Values Tree slots
+Values Tree (among ks ∷ slots) = Lexeme × Values Tree slots
 Values Tree (one p ∷ slots) = Tree p × Values Tree slots
 
 -- One right side, with the test that its values pass and the tree that they give.
@@ -51,6 +55,7 @@ pub data Sym {N : Type 0} (Tree : N → Type 0) : Type 0 where
   spelled : TokenKind → Text → Sym Tree
   named : TokenKind → (Text → Bool) → Text → Sym Tree
   counted : ℕ → Sym Tree
+  token_of : List TokenKind → Lexeme → Sym Tree
   part : (p : N) → Tree p → Sym Tree
 
 -- the slots filled
@@ -60,6 +65,7 @@ filled Tree (mark k ∷ slots) v = plain k ∷ filled Tree slots v
 filled Tree (word k w ∷ slots) v = spelled k w ∷ filled Tree slots v
 filled Tree (name k ok ∷ slots) v = named k ok v.0 ∷ filled Tree slots v.1
 filled Tree (number ∷ slots) v = counted v.0 ∷ filled Tree slots v.1
+filled Tree (among ks ∷ slots) v = token_of ks v.0 ∷ filled Tree slots v.1
 filled Tree (one p ∷ slots) v = part p v.0 ∷ filled Tree slots v.1
 
 -- the token is what the symbol says
@@ -68,6 +74,7 @@ IsToken (plain k) t = t.kind ≡ k
 IsToken (spelled k w) t = (t.kind ≡ k) × (t.content ≡ w)
 IsToken (named k ok w) t = (t.kind ≡ k) × (t.content ≡ w) × (ok w ≡ true)
 IsToken (counted n) t = t.kind ≡ token_kind.Int n
+IsToken (token_of ks u) t = (t ≡ u) × (is_one ks t.kind ≡ true)
 IsToken (part p x) t = ⊥
 
 -- from the first token to the last

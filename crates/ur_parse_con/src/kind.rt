@@ -15,7 +15,8 @@ use ur_grammar::{
 use ur_lex::{Symbol, TokenKind, Tokens};
 use ur_syntax::Kind;
 
-/// The greatest number of parentheses around a kind, which no tree shows: the stack is memory, and more is want of memory.
+/// The greatest number of parentheses around a kind, which no tree shows, and of `$` before a constructor: the stack is
+/// memory, and more is want of memory.
 pub const MAX_PARENTHESES: usize = 1024;
 
 /// Kinds with `->` between, which groups to the right, in at most `levels` parentheses.
@@ -41,7 +42,8 @@ pub fn kind(alloc: Global, tokens: &Tokens, at: usize, levels: usize) -> Result<
     Ok(whole)
 }
 
-fn taller(left: usize, right: usize) -> usize {
+/// The greater of two heights.
+pub fn taller(left: usize, right: usize) -> usize {
     if left < right { right } else { left }
 }
 

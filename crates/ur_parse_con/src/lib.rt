@@ -1,8 +1,20 @@
-//! Kinds are read.
+//! Kinds and constructors are read.
 #![tactic(auto)]
 
+mod con;
+mod fields;
+mod joins;
 mod kind;
+mod names;
+mod nodes;
+mod param;
 #[cfg(test)]
 mod tests;
+mod whole;
+mod words;
 
-pub use kind::{MAX_PARENTHESES, kind as read_kind};
+pub use con::con as read_con;
+pub use kind::{MAX_PARENTHESES, kind as read_kind, taller};
+pub use names::expect_field_name;
+pub use param::con_param as read_con_param;
+pub use words::expect_field;

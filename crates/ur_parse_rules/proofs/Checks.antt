@@ -1,19 +1,19 @@
 -- A grammar whose rules are told apart by their first tokens is checked by computing: what nonterminals begin with, and
 -- what goes on behind them, is told by tables.
-use Rattle.std.specs.Prelude.{◌≡◌, ◌⊎◌, ℕ, zero, suc, Bool, true, false, ◌&&◌, ◌||◌, ◌==◌, ◌+◌, ◌<◌, if◌then◌else◌, List, [], ◌∷◌, ◌++◌, refl}
+use Rattle.std.specs.Prelude.{map, ◌≡◌, ◌⊎◌, ℕ, zero, suc, Bool, true, false, ◌&&◌, ◌||◌, ◌==◌, ◌+◌, ◌<◌, if◌then◌else◌, List, [], ◌∷◌, ◌++◌, refl}
 use Rattle.std.proofs.Common.{sym, ◌∙◌, ap, subst, inl, inr, arith}
 use Rattle.std.proofs.lemmas.Bool.{eqb-true, eq-eqb}
 use Rattle.ur_lex.specs.declared.token.TokenKind.{TokenKind}
 use Rattle.ur_lex.specs.declared.token.TokenKind.TheVariants as token_kind
 use Rattle.ur_lex.specs.declared.token.Lexeme.{Lexeme}
 use Rattle.ur_lex.specs.Spelling.{Text}
-use Rattle.ur_grammar.specs.KindNumbers.{kind_number}
-use Rattle.ur_grammar.specs.Rules.{Slot, mark, word, name, number, one, Values, Rule, Grammar, Sym, part, filled, AnyOf, Builds, Spells, Stops}
-use Rattle.ur_grammar.proofs.Inversions.{height, height-subst, nothing-out, token-out, no_plain, no_spelled, no_named, no_counted, part-out, produced-out}
+use Rattle.ur_grammar.specs.KindNumbers.{kind_number, is_one}
+use Rattle.ur_grammar.specs.Rules.{Slot, mark, word, name, number, among, one, Values, Rule, Grammar, Sym, part, filled, AnyOf, Builds, Spells, Stops}
+use Rattle.ur_grammar.proofs.Inversions.{height, height-subst, nothing-out, token-out, no_plain, no_spelled, no_named, no_counted, no_token_of, part-out, produced-out}
 use Rattle.ur_grammar.proofs.Once.{Fits, Ends, AfterEach, AllAfter, AllChosen, Decided}
 use Rattle.ur_grammar.proofs.Choices.{by_first, if_true, if_false}
 use Rattle.std.proofs.lemmas.Slice.Eq.{bytes_eq-Decides}
-use Rattle.ur_parse_rules.specs.Classes.{Test, every, just, by, passes, Classes, member}
+use Rattle.ur_parse_rules.specs.Classes.{Test, every, just, by, passes, Classes, member, all_of}
 use Rattle.ur_parse_rules.proofs.Tests.{false_true, and_left, and_right, and_true, is_not, or_true, or_first, or_second, apart, within, nor_both, inside, member_append, member_behind}
 
 -- ---- what slots begin with
@@ -50,6 +50,7 @@ module _ {N : Type 0} (first : N → Classes) (empty : N → Bool) where
   firsts (word k w ∷ slots) = record { kind = kind_number k; test = just w } ∷ []
   firsts (name k ok ∷ slots) = record { kind = kind_number k; test = by ok } ∷ []
   firsts (number ∷ slots) = record { kind = 64; test = every } ∷ []
+  firsts (among ks ∷ slots) = map all_of ks
   firsts (one p ∷ slots) = joined (empty p) (first p) (firsts slots)
 
   abbrev pub nullable : List (Slot N) → Bool
@@ -129,6 +130,10 @@ begun_fit : (e f : Bool) (a b : Classes) (taken : List Lexeme) → within a b �
 begun_fit e f a b taken h i (inl x) = inl (x.0, implied e f x.1 i)
 begun_fit e f a b taken h i (inr y) = inr (y.0, y.1, y.2, inside a b y.0.kind y.0.content h y.3)
 
+kinds_member : (ks : List TokenKind) (l : Lexeme) → is_one ks l.kind ≡ true → member (map all_of ks) l.kind l.content ≡ true
+kinds_member [] l h = h
+kinds_member (k ∷ ks) l h = or_true (kind_number k == kind_number l.kind) (is_one ks l.kind) h (λ y. or_first _ _ (and_true y refl)) (λ y. or_second _ _ (kinds_member ks l y))
+
 module _ {N : Type 0} (first : N → Classes) (empty : N → Bool) where
   pub of_mark : (a : TokenKind) (t : Lexeme) → t.kind ≡ a → member (firsts first empty (mark a ∷ [])) t.kind t.content ≡ true
   of_mark a t e = class_holds (kind_number a) every t (ap kind_number (sym e)) refl
@@ -138,6 +143,9 @@ module _ {N : Type 0} (first : N → Classes) (empty : N → Bool) where
 
   pub of_name : (a : TokenKind) (ok : Text → Bool) (w : Text) (t : Lexeme) → t.kind ≡ a → t.content ≡ w → ok w ≡ true → member (firsts first empty (name a ok ∷ [])) t.kind t.content ≡ true
   of_name a ok w t e f g = class_holds (kind_number a) (by ok) t (ap kind_number (sym e)) (ap ok f ∙ g)
+
+  pub of_among : (ks : List TokenKind) (t : Lexeme) → is_one ks t.kind ≡ true → member (firsts first empty (among ks ∷ [])) t.kind t.content ≡ true
+  of_among ks t h = kinds_member ks t h
 
   pub of_number : (n : ℕ) (t : Lexeme) → t.kind ≡ token_kind.Int n → member (firsts first empty (number ∷ [])) t.kind t.content ≡ true
   of_number n t e = class_holds 64 every t (ap kind_number (sym e)) refl
@@ -153,6 +161,7 @@ module _ {N : Type 0} {Tree : N → Type 0} (G : Grammar Tree) (first : N → Cl
   slots_begun k ih (word a w ∷ slots) n v taken d h = let o = token-out G (no_spelled G) d in inr (o.0, o.1, o.2, of_word first empty a w o.0 o.3.0 o.3.1)
   slots_begun k ih (name a ok ∷ slots) n v taken d h = let o = token-out G (no_named G) d in inr (o.0, o.1, o.2, of_name first empty a ok v.0 o.0 o.3.0 o.3.1 o.3.2)
   slots_begun k ih (number ∷ slots) n v taken d h = let o = token-out G (no_counted G) d in inr (o.0, o.1, o.2, of_number first empty v.0 o.0 o.3)
+  slots_begun k ih (among ks ∷ slots) n v taken d h = let o = token-out G (no_token_of G) d in inr (o.0, o.1, o.2, of_among first empty ks o.0 o.3.1)
   slots_begun k ih (one p ∷ slots) n v taken d h = let o = part-out G d in let l = o.4 in let l' = o.6 in
       begun_pair (empty p) (nullable first empty slots) (first p) (firsts first empty slots) taken o.0 o.1 o.2 (ih p n v.0 o.0 o.3 (omega (arith, h, l))) (slots_begun k ih slots n v.1 o.1 o.5 (omega (arith, h, l')))
 
@@ -246,6 +255,7 @@ module _ {N : Type 0} {Tree : N → Type 0} (G : Grammar Tree) (first : N → Cl
       each_ends s (word k w ∷ slots) P f a = each_ends s slots P f a
       each_ends s (name k ok ∷ slots) P f a = λ w. each_ends s slots (λ v rest. P (w, v) rest) (λ v rest y. f (w, v) rest y) a
       each_ends s (number ∷ slots) P f a = λ n. each_ends s slots (λ v rest. P (n, v) rest) (λ v rest y. f (n, v) rest y) a
+      each_ends s (among ks ∷ slots) P f a = λ t. each_ends s slots (λ v rest. P (t, v) rest) (λ v rest y. f (t, v) rest y) a
       each_ends s (one q ∷ slots) P f a = λ x. let c = and_left _ _ a in (
         part_ends s q x slots (λ v rest. P (x, v) rest) (λ v rest y. f (x, v) rest y) (and_left _ _ c) (and_right _ _ c),
         each_ends s slots (λ v rest. P (x, v) rest) (λ v rest y. f (x, v) rest y) (and_right _ _ a),

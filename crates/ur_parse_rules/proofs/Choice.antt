@@ -5,11 +5,12 @@ use Rattle.ur_lex.specs.declared.token.TokenKind.TheVariants as token
 use Rattle.ur_lex.specs.declared.token.Lexeme.{Lexeme}
 use Rattle.ur_grammar.specs.Places.{starts}
 use Rattle.ur_parse_rules.specs.Classes.{Classes, all_of, member}
+use Rattle.ur_parse_rules.specs.Quoted.{Quoting}
 use Rattle.ur_parse_rules.specs.ConParts as c
 use Rattle.ur_parse_rules.specs.ExpParts as e
 use Rattle.ur_parse_rules.specs.SqlParts as s
 use Rattle.ur_parse_rules.specs.XmlParts as x
-use Rattle.ur_parse_rules.specs.Parts.{Part, of_con, of_exp, of_sql, of_xml, of_decl}
+use Rattle.ur_parse_rules.specs.Parts.{Part, of_con, of_exp, of_sql, of_xml, of_decl, of_quote, of_code}
 use Rattle.ur_parse_rules.specs.Ends.{symbols, capitals, sql_operators}
 use Rattle.ur_parse_rules.proofs.Leads.{hits}
 use Rattle.ur_parse_rules.proofs.Table.{by_token}
@@ -63,17 +64,19 @@ abbrev pub exp_choices : e.ExpPart → List Lexeme → ℕ
 exp_choices e.exp = exp_choice
 exp_choices p = by_token (of_exp p)
 
-abbrev pub sql_choice : s.SqlPart → List Lexeme → ℕ
-sql_choice s.selected = selected_choice
-sql_choice p = by_token (of_sql p)
+abbrev pub sql_choice : Quoting → s.SqlPart → List Lexeme → ℕ
+sql_choice q s.selected = selected_choice
+sql_choice q p = by_token (of_sql q p)
 
-abbrev pub xml_choice : x.XmlPart → List Lexeme → ℕ
-xml_choice x.one_part = part_choice
-xml_choice p = by_token (of_xml p)
+abbrev pub xml_choice : Quoting → x.XmlPart → List Lexeme → ℕ
+xml_choice q x.one_part = part_choice
+xml_choice q p = by_token (of_xml q p)
 
 abbrev pub choice : Part → List Lexeme → ℕ
 choice (of_con p) = con_choice p
 choice (of_exp p) = exp_choices p
-choice (of_sql p) = sql_choice p
-choice (of_xml p) = xml_choice p
+choice (of_sql q p) = sql_choice q p
+choice (of_xml q p) = xml_choice q p
 choice (of_decl p) = by_token (of_decl p)
+choice (of_quote q) = by_token (of_quote q)
+choice (of_code p) = by_token (of_code p)

@@ -5,7 +5,9 @@ use Rattle.ur_parse_rules.specs.ExpParts as e
 use Rattle.ur_parse_rules.specs.SqlParts as s
 use Rattle.ur_parse_rules.specs.XmlParts as x
 use Rattle.ur_parse_rules.specs.DeclParts as d
-use Rattle.ur_parse_rules.specs.Parts.{Part, of_con, of_exp, of_sql, of_xml, of_decl}
+use Rattle.ur_parse_rules.specs.CodeParts as code
+use Rattle.ur_parse_rules.specs.Quoted.{Quoting, expressions, raw}
+use Rattle.ur_parse_rules.specs.Parts.{Part, of_con, of_exp, of_sql, of_xml, of_decl, of_quote, of_code}
 use Rattle.ur_parse_rules.specs.Language.{rules}
 use Rattle.ur_parse_rules.proofs.Starts.{first, empty}
 use Rattle.ur_parse_rules.proofs.Checks.{firsts_fit}
@@ -63,45 +65,55 @@ exp_fit (e.left_tail l) = tail_fit l
 exp_fit (e.operand l) = operand_fit l
 exp_fit _ = refl
 
-sql_left_fit : (bare : Bool) (l : s.SqlLevel) → Fits (of_sql (s.left bare l))
-sql_left_fit bare s.disjunction = refl
-sql_left_fit bare _ = refl
+sql_left_fit : (q : Quoting) (bare : Bool) (l : s.SqlLevel) → Fits (of_sql q (s.left bare l))
+sql_left_fit q bare s.disjunction = refl
+sql_left_fit q bare _ = refl
 
-sql_operand_fit : (bare : Bool) (l : s.SqlLevel) → Fits (of_sql (s.operand bare l))
-sql_operand_fit bare s.disjunction = refl
-sql_operand_fit bare _ = refl
+sql_operand_fit : (q : Quoting) (bare : Bool) (l : s.SqlLevel) → Fits (of_sql q (s.operand bare l))
+sql_operand_fit q bare s.disjunction = refl
+sql_operand_fit q bare _ = refl
 
-sql_tail_fit : (bare : Bool) (l : s.SqlLevel) → Fits (of_sql (s.left_tail bare l))
-sql_tail_fit bare s.disjunction = refl
-sql_tail_fit bare _ = refl
+sql_tail_fit : (q : Quoting) (bare : Bool) (l : s.SqlLevel) → Fits (of_sql q (s.left_tail bare l))
+sql_tail_fit q bare s.disjunction = refl
+sql_tail_fit q bare _ = refl
 
-sql_step_fit : (bare : Bool) (l : s.SqlLevel) → Fits (of_sql (s.left_step bare l))
-sql_step_fit bare s.disjunction = refl
-sql_step_fit bare _ = refl
+sql_step_fit : (q : Quoting) (bare : Bool) (l : s.SqlLevel) → Fits (of_sql q (s.left_step bare l))
+sql_step_fit q bare s.disjunction = refl
+sql_step_fit q bare _ = refl
 
-column_fit : (bare : Bool) → Fits (of_sql (s.column bare))
-column_fit true = refl
-column_fit false = refl
+column_fit : (q : Quoting) (bare : Bool) → Fits (of_sql q (s.column bare))
+column_fit q true = refl
+column_fit q false = refl
 
-sql_fit : (p : s.SqlPart) → Fits (of_sql p)
-sql_fit (s.left bare l) = sql_left_fit bare l
-sql_fit (s.operand bare l) = sql_operand_fit bare l
-sql_fit (s.left_tail bare l) = sql_tail_fit bare l
-sql_fit (s.left_step bare l) = sql_step_fit bare l
-sql_fit (s.column bare) = column_fit bare
-sql_fit _ = refl
+sql_fit : (q : Quoting) (p : s.SqlPart) → Fits (of_sql q p)
+sql_fit q (s.left bare l) = sql_left_fit q bare l
+sql_fit q (s.operand bare l) = sql_operand_fit q bare l
+sql_fit q (s.left_tail bare l) = sql_tail_fit q bare l
+sql_fit q (s.left_step bare l) = sql_step_fit q bare l
+sql_fit q (s.column bare) = column_fit q bare
+sql_fit q _ = refl
 
-xml_fit : (p : x.XmlPart) → Fits (of_xml p)
-xml_fit x.literal = refl
-xml_fit _ = refl
+xml_fit : (q : Quoting) (p : x.XmlPart) → Fits (of_xml q p)
+xml_fit q x.literal = refl
+xml_fit q _ = refl
 
 decl_fit : (p : d.DeclPart) → Fits (of_decl p)
 decl_fit d.whole = refl
 decl_fit _ = refl
 
+quote_fit : (q : Quoting) → Fits (of_quote q)
+quote_fit expressions = refl
+quote_fit raw = refl
+
+code_fit : (p : code.CodePart) → Fits (of_code p)
+code_fit code.pieces = refl
+code_fit code.piece = refl
+
 pub fit : (p : Part) → Fits p
 fit (of_con p) = con_fit p
 fit (of_exp p) = exp_fit p
-fit (of_sql p) = sql_fit p
-fit (of_xml p) = xml_fit p
+fit (of_sql q p) = sql_fit q p
+fit (of_xml q p) = xml_fit q p
 fit (of_decl p) = decl_fit p
+fit (of_quote q) = quote_fit q
+fit (of_code p) = code_fit p

@@ -2,12 +2,12 @@
 use Rattle.std.specs.Prelude.{◌≡◌, ℕ, zero, suc, Bool, true, false, not, ◌&&◌, ◌||◌, ◌+◌, ◌<◌, List, [], ◌∷◌, ◌++◌, refl}
 use Rattle.std.proofs.Common.{sym, ◌∙◌, subst, inl, inr, arith, append_assoc}
 use Rattle.ur_lex.specs.declared.token.Lexeme.{Lexeme}
-use Rattle.ur_grammar.specs.Rules.{Slot, mark, word, name, number, one, Values, Rule, Grammar, Sym, part, filled, AnyOf, Builds, Spells}
+use Rattle.ur_grammar.specs.Rules.{Slot, mark, word, name, number, among, one, Values, Rule, Grammar, Sym, part, filled, AnyOf, Builds, Spells}
 use Rattle.ur_grammar.specs.Places.{starts}
-use Rattle.ur_grammar.proofs.Inversions.{height, height-subst, nothing-out, token-out, no_plain, no_spelled, no_named, no_counted, part-out, produced-out}
+use Rattle.ur_grammar.proofs.Inversions.{height, height-subst, nothing-out, token-out, no_plain, no_spelled, no_named, no_counted, no_token_of, part-out, produced-out}
 use Rattle.ur_parse_rules.specs.Classes.{Classes, member}
 use Rattle.ur_parse_rules.proofs.Tests.{false_true, and_left, and_right, not_true, or_true, apart, within, nor_both, inside}
-use Rattle.ur_parse_rules.proofs.Checks.{firsts, nullable, implies, implied, firsts_fit, begun, part_begun, of_mark, of_word, of_name, of_number}
+use Rattle.ur_parse_rules.proofs.Checks.{firsts, nullable, implies, implied, firsts_fit, begun, part_begun, of_mark, of_word, of_name, of_number, of_among}
 
 -- ---- what is watched: tokens of these classes one behind the other, and then one of a set, or then none of it
 
@@ -42,6 +42,7 @@ module _ (set : Classes) (wanted : Bool) where
     leads full (s ∷ ss) (word k w ∷ slots) = apart s (firsts first empty (word k w ∷ [])) || leads false ss slots
     leads full (s ∷ ss) (name k ok ∷ slots) = apart s (firsts first empty (name k ok ∷ [])) || leads false ss slots
     leads full (s ∷ ss) (number ∷ slots) = apart s (firsts first empty (number ∷ [])) || leads false ss slots
+    leads full (s ∷ ss) (among ks ∷ slots) = apart s (firsts first empty (among ks ∷ [])) || leads false ss slots
 
     abbrev pub all_lead : {Tree : N → Type 0} {T : Type 0} → List Classes → List (Rule Tree T) → Bool
     all_lead ws [] = true
@@ -107,6 +108,9 @@ module _ {N : Type 0} {Tree : N → Type 0} (G : Grammar Tree) (first : N → Cl
         (λ y. slots_led k ih false ss (λ z. false_true z) slots y n v.1 o.1 us o.4 (omega (arith, h, q)) b))
     slots_led k ih full (s ∷ ss) f (number ∷ slots) l n v taken us d h b = let o = token-out G (no_counted G) d in let e = o.2 in let q = o.5 in
         rw e (one_token s ss (firsts first empty (number ∷ [])) o.0 (o.1 ++ us) _ l (of_number first empty v.0 o.0 o.3)
+        (λ y. slots_led k ih false ss (λ z. false_true z) slots y n v.1 o.1 us o.4 (omega (arith, h, q)) b))
+    slots_led k ih full (s ∷ ss) f (among ks ∷ slots) l n v taken us d h b = let o = token-out G (no_token_of G) d in let e = o.2 in let q = o.5 in
+        rw e (one_token s ss (firsts first empty (among ks ∷ [])) o.0 (o.1 ++ us) _ l (of_among first empty ks o.0 o.3.1)
         (λ y. slots_led k ih false ss (λ z. false_true z) slots y n v.1 o.1 us o.4 (omega (arith, h, q)) b))
     slots_led k ih full (s ∷ ss) f (one p ∷ slots) l n v taken us d h b = let o = part-out G d in let e = o.2 in let q = o.4 in let a = append_assoc o.0 o.1 us in
         rw (e, a) (elim (part_begun G first empty fit p n v.0 o.0 o.3) [

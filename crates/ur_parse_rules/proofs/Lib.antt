@@ -7,12 +7,14 @@ pub mod Table
 pub mod Leads
 pub mod Choice
 pub mod Watches
+pub mod RawCode
 pub mod Special
 pub mod Lines
 pub mod ConDecided
 pub mod ExpDecided
 pub mod SqlDecided
 pub mod XmlDecided
+pub mod CodeDecided
 pub mod DeclDecided
 pub mod AllDecided
 mod Reader
@@ -20,3 +22,4 @@ mod Examples
 mod Samples
 mod Applications
 mod Embedded
+mod Skeletons

@@ -5,16 +5,18 @@ use Rattle.ur_lex.specs.declared.token.TokenKind.{TokenKind}
 use Rattle.ur_lex.specs.Spelling.{Text}
 use Rattle.ur_parse_rules.specs.Classes.{Classes, member}
 use Rattle.ur_parse_rules.specs.ExpParts as e
-use Rattle.ur_parse_rules.specs.Parts.{Part, of_con, of_exp, of_sql, of_xml, of_decl, Tree, ExpTree, Ended}
-use Rattle.ur_parse_rules.specs.Ends.{con_last, exp_last, sql_last, xml_last, decl_last, more, more_exps, exp_more, line_more, rest_more, branches_more, semicolon, bar, operators, symbols}
+use Rattle.ur_parse_rules.specs.Parts.{Part, of_con, of_exp, of_sql, of_xml, of_decl, of_quote, of_code, Tree, ExpTree, Ended}
+use Rattle.ur_parse_rules.specs.Ends.{con_last, exp_last, sql_last, xml_last, decl_last, code_last, code_starts, more, more_exps, exp_more, line_more, rest_more, branches_more, semicolon, bar, operators, symbols}
 use Rattle.ur_parse_rules.proofs.Tests.{and_left, or_true, inside, member_behind}
 
 abbrev pub last : Part → Classes
 last (of_con p) = con_last p
 last (of_exp p) = exp_last p
-last (of_sql p) = sql_last p
-last (of_xml p) = xml_last p
+last (of_sql q p) = sql_last p
+last (of_xml q p) = xml_last p
 last (of_decl p) = decl_last p
+last (of_quote q) = code_starts
+last (of_code p) = code_last p
 
 abbrev loose : Classes
 loose = symbols (symbol.Semicolon ∷ symbol.LeftArrow ∷ symbol.Bar ∷ []) ++ operators
@@ -53,6 +55,8 @@ exps_most _ a k w h = h
 pub most : (p : Part) (a : Tree p) (k : TokenKind) (w : Text) → more p a k w ≡ true → member (last p) k w ≡ true
 most (of_con p) a k w h = h
 most (of_exp p) a k w h = exps_most p a k w h
-most (of_sql p) a k w h = h
-most (of_xml p) a k w h = h
+most (of_sql q p) a k w h = h
+most (of_xml q p) a k w h = h
 most (of_decl p) a k w h = h
+most (of_quote q) a k w h = h
+most (of_code p) a k w h = h

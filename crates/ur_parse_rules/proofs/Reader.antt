@@ -6,9 +6,9 @@ use Rattle.ur_lex.specs.declared.token.TokenKind.{TokenKind}
 use Rattle.ur_lex.specs.declared.token.TokenKind.TheVariants as token_kind
 use Rattle.ur_lex.specs.declared.token.Lexeme.{Lexeme}
 use Rattle.ur_lex.specs.Spelling.{Text}
-use Rattle.ur_grammar.specs.KindNumbers.{same_kind}
+use Rattle.ur_grammar.specs.KindNumbers.{same_kind, is_one}
 use Rattle.ur_grammar.specs.Places.{span_between}
-use Rattle.ur_grammar.specs.Rules.{Slot, mark, word, name, number, one, Values, Rule, no_span}
+use Rattle.ur_grammar.specs.Rules.{Slot, mark, word, name, number, among, one, Values, Rule, no_span}
 use Rattle.ur_parse_rules.specs.Parts.{Part, Tree}
 use Rattle.ur_parse_rules.specs.Language.{rules, cost}
 use Rattle.ur_parse_rules.proofs.Choice.{choice}
@@ -46,6 +46,7 @@ fill rd (mark k ∷ slots) ts = then_fill (λ _ v. v) (token_at (λ j w. same_ki
 fill rd (word k u ∷ slots) ts = then_fill (λ _ v. v) (token_at (λ j w. same_kind k j && bytes_eq u w) ts) (fill rd slots)
 fill rd (name k ok ∷ slots) ts = then_fill (λ t v. (t.content, v)) (token_at (λ j w. same_kind k j && ok w) ts) (fill rd slots)
 fill rd (number ∷ slots) ts = then_fill (λ n v. (n, v)) (int_at ts) (fill rd slots)
+fill rd (among ks ∷ slots) ts = then_fill (λ t v. (t, v)) (token_at (λ j w. is_one ks j) ts) (fill rd slots)
 fill rd (one p ∷ slots) ts = then_fill (λ a v. (a, v)) (rd p ts) (fill rd slots)
 
 abbrev span_to : List Lexeme → List Lexeme → Span

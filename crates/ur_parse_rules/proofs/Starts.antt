@@ -12,8 +12,9 @@ use Rattle.ur_parse_rules.specs.ExpParts as e
 use Rattle.ur_parse_rules.specs.SqlParts as s
 use Rattle.ur_parse_rules.specs.XmlParts as x
 use Rattle.ur_parse_rules.specs.DeclParts as d
-use Rattle.ur_parse_rules.specs.Parts.{Part, of_con, of_exp, of_sql, of_xml, of_decl}
-use Rattle.ur_parse_rules.specs.Ends.{symbols, keywords, capitals, con_args, exp_args, dot_class, binder_starts, comma_class, xml_starts, decl_starts}
+use Rattle.ur_parse_rules.specs.CodeParts as code
+use Rattle.ur_parse_rules.specs.Parts.{Part, of_con, of_exp, of_sql, of_xml, of_decl, of_quote, of_code}
+use Rattle.ur_parse_rules.specs.Ends.{symbols, keywords, capitals, con_args, exp_args, dot_class, binder_starts, comma_class, xml_starts, decl_starts, code_starts}
 
 -- ---- constructors
 
@@ -300,18 +301,28 @@ decl_empty d.signature = true
 decl_empty d.val_decls = true
 decl_empty _ = false
 
+-- ---- code as the tokens that it is
+
+abbrev pub code_empty : code.CodePart → Bool
+code_empty code.pieces = true
+code_empty code.piece = false
+
 -- ---- all
 
 abbrev pub first : Part → Classes
 first (of_con p) = con_first p
 first (of_exp p) = exp_first p
-first (of_sql p) = sql_first p
-first (of_xml p) = xml_first p
+first (of_sql q p) = sql_first p
+first (of_xml q p) = xml_first p
 first (of_decl p) = decl_first p
+first (of_quote q) = code_starts
+first (of_code p) = code_starts
 
 abbrev pub empty : Part → Bool
 empty (of_con p) = con_empty p
 empty (of_exp p) = exp_empty p
-empty (of_sql p) = sql_empty p
-empty (of_xml p) = xml_empty p
+empty (of_sql q p) = sql_empty p
+empty (of_xml q p) = xml_empty p
 empty (of_decl p) = decl_empty p
+empty (of_quote q) = false
+empty (of_code p) = code_empty p

@@ -3,10 +3,11 @@ use Rattle.std.specs.Prelude.{◌≡◌, ℕ, Bool, true, false, not, List, [], 
 use Rattle.ur_lex.specs.declared.token.Lexeme.{Lexeme}
 use Rattle.ur_grammar.specs.Rules.{part, Spells}
 use Rattle.ur_parse_rules.specs.Classes.{Classes}
+use Rattle.ur_parse_rules.specs.Quoted.{Quoting}
 use Rattle.ur_parse_rules.specs.ConParts as c
 use Rattle.ur_parse_rules.specs.ExpParts as e
 use Rattle.ur_parse_rules.specs.SqlParts as s
-use Rattle.ur_parse_rules.specs.Parts.{Part, of_con, of_exp, of_sql, of_xml, of_decl, Tree}
+use Rattle.ur_parse_rules.specs.Parts.{Part, of_con, of_exp, of_sql, of_xml, of_decl, of_quote, of_code, Tree}
 use Rattle.ur_parse_rules.specs.Language.{language, rules}
 use Rattle.ur_parse_rules.proofs.Tests.{false_true}
 use Rattle.ur_parse_rules.proofs.Checks.{implies}
@@ -39,9 +40,11 @@ con_parts_led _ = refl
 con_led : (p : Part) → Led colons true true a_name con_lead p
 con_led (of_con p) = con_parts_led p
 con_led (of_exp p) = refl
-con_led (of_sql p) = refl
-con_led (of_xml p) = refl
+con_led (of_sql q p) = refl
+con_led (of_xml q p) = refl
 con_led (of_decl p) = refl
+con_led (of_quote q) = refl
+con_led (of_code p) = refl
 
 -- no constructor begins as `x ::`
 pub no_colons : (p : Part) → con_lead p ≡ true → (n : ℕ) (x : Tree p) (taken us : List Lexeme) → Spells language n (part p x ∷ []) taken → behind colons true us ≡ false → hits colons true a_name (taken ++ us) ≡ false
@@ -87,9 +90,11 @@ exp_parts_led _ = refl
 exp_led : (p : Part) → Led arrow true true a_name exp_lead p
 exp_led (of_con p) = refl
 exp_led (of_exp p) = exp_parts_led p
-exp_led (of_sql p) = refl
-exp_led (of_xml p) = refl
+exp_led (of_sql q p) = refl
+exp_led (of_xml q p) = refl
 exp_led (of_decl p) = refl
+exp_led (of_quote q) = refl
+exp_led (of_code p) = refl
 
 -- no line begins as `x <-`
 pub no_arrow : (n : ℕ) (x : Tree (of_exp e.line)) (taken us : List Lexeme) → Spells language n (part (of_exp e.line) x ∷ []) taken → behind arrow true us ≡ false → hits arrow true a_name (taken ++ us) ≡ false
@@ -124,9 +129,11 @@ bracket_parts_led _ = refl
 bracket_led : (p : Part) → Led bracket false false a_bracket bracket_lead p
 bracket_led (of_con p) = refl
 bracket_led (of_exp p) = bracket_parts_led p
-bracket_led (of_sql p) = refl
-bracket_led (of_xml p) = refl
+bracket_led (of_sql q p) = refl
+bracket_led (of_xml q p) = refl
 bracket_led (of_decl p) = refl
+bracket_led (of_quote q) = refl
+bracket_led (of_code p) = refl
 
 -- behind `[` an expression goes on with `]`
 pub no_bracket : (n : ℕ) (x : Tree (of_exp e.exp)) (taken us : List Lexeme) → Spells language n (part (of_exp e.exp) x ∷ []) taken → hits bracket false a_bracket (taken ++ us) ≡ false
@@ -146,61 +153,63 @@ column_leads (s.column bare) = not bare
 column_leads _ = false
 
 abbrev column_lead : Part → Bool
-column_lead (of_sql p) = column_leads p
+column_lead (of_sql q p) = column_leads p
 column_lead _ = false
 
-sql_left_led : (bare : Bool) (l : s.SqlLevel) → Led goes_on false true a_column column_lead (of_sql (s.left bare l))
-sql_left_led true l = refl
-sql_left_led false s.disjunction = refl
-sql_left_led false _ = refl
+sql_left_led : (q : Quoting) (bare : Bool) (l : s.SqlLevel) → Led goes_on false true a_column column_lead (of_sql q (s.left bare l))
+sql_left_led q true l = refl
+sql_left_led q false s.disjunction = refl
+sql_left_led q false _ = refl
 
-sql_operand_led : (bare : Bool) (l : s.SqlLevel) → Led goes_on false true a_column column_lead (of_sql (s.operand bare l))
-sql_operand_led true l = refl
-sql_operand_led false s.disjunction = refl
-sql_operand_led false _ = refl
+sql_operand_led : (q : Quoting) (bare : Bool) (l : s.SqlLevel) → Led goes_on false true a_column column_lead (of_sql q (s.operand bare l))
+sql_operand_led q true l = refl
+sql_operand_led q false s.disjunction = refl
+sql_operand_led q false _ = refl
 
-sexp_led : (bare : Bool) → Led goes_on false true a_column column_lead (of_sql (s.sexp bare))
-sexp_led true = refl
-sexp_led false = refl
+sexp_led : (q : Quoting) (bare : Bool) → Led goes_on false true a_column column_lead (of_sql q (s.sexp bare))
+sexp_led q true = refl
+sexp_led q false = refl
 
-negation_led : (bare : Bool) → Led goes_on false true a_column column_lead (of_sql (s.negation bare))
-negation_led true = refl
-negation_led false = refl
+negation_led : (q : Quoting) (bare : Bool) → Led goes_on false true a_column column_lead (of_sql q (s.negation bare))
+negation_led q true = refl
+negation_led q false = refl
 
-comparison_led : (bare : Bool) → Led goes_on false true a_column column_lead (of_sql (s.comparison bare))
-comparison_led true = refl
-comparison_led false = refl
+comparison_led : (q : Quoting) (bare : Bool) → Led goes_on false true a_column column_lead (of_sql q (s.comparison bare))
+comparison_led q true = refl
+comparison_led q false = refl
 
-negative_led : (bare : Bool) → Led goes_on false true a_column column_lead (of_sql (s.negative bare))
-negative_led true = refl
-negative_led false = refl
+negative_led : (q : Quoting) (bare : Bool) → Led goes_on false true a_column column_lead (of_sql q (s.negative bare))
+negative_led q true = refl
+negative_led q false = refl
 
-atom_led : (bare : Bool) → Led goes_on false true a_column column_lead (of_sql (s.atom bare))
-atom_led true = refl
-atom_led false = refl
+atom_led : (q : Quoting) (bare : Bool) → Led goes_on false true a_column column_lead (of_sql q (s.atom bare))
+atom_led q true = refl
+atom_led q false = refl
 
-column_led : (bare : Bool) → Led goes_on false true a_column column_lead (of_sql (s.column bare))
-column_led true = refl
-column_led false = refl
+column_led : (q : Quoting) (bare : Bool) → Led goes_on false true a_column column_lead (of_sql q (s.column bare))
+column_led q true = refl
+column_led q false = refl
 
-sql_parts_led : (p : s.SqlPart) → Led goes_on false true a_column column_lead (of_sql p)
-sql_parts_led (s.sexp bare) = sexp_led bare
-sql_parts_led (s.left bare l) = sql_left_led bare l
-sql_parts_led (s.operand bare l) = sql_operand_led bare l
-sql_parts_led (s.negation bare) = negation_led bare
-sql_parts_led (s.comparison bare) = comparison_led bare
-sql_parts_led (s.negative bare) = negative_led bare
-sql_parts_led (s.atom bare) = atom_led bare
-sql_parts_led (s.column bare) = column_led bare
-sql_parts_led _ = refl
+sql_parts_led : (q : Quoting) (p : s.SqlPart) → Led goes_on false true a_column column_lead (of_sql q p)
+sql_parts_led q (s.sexp bare) = sexp_led q bare
+sql_parts_led q (s.left bare l) = sql_left_led q bare l
+sql_parts_led q (s.operand bare l) = sql_operand_led q bare l
+sql_parts_led q (s.negation bare) = negation_led q bare
+sql_parts_led q (s.comparison bare) = comparison_led q bare
+sql_parts_led q (s.negative bare) = negative_led q bare
+sql_parts_led q (s.atom bare) = atom_led q bare
+sql_parts_led q (s.column bare) = column_led q bare
+sql_parts_led q _ = refl
 
 sql_led : (p : Part) → Led goes_on false true a_column column_lead p
 sql_led (of_con p) = refl
 sql_led (of_exp p) = refl
-sql_led (of_sql p) = sql_parts_led p
-sql_led (of_xml p) = refl
+sql_led (of_sql q p) = sql_parts_led q p
+sql_led (of_xml q p) = refl
 sql_led (of_decl p) = refl
+sql_led (of_quote q) = refl
+sql_led (of_code p) = refl
 
 -- an expression before an operator or `AS` does not begin as a column alone
-pub no_column : (n : ℕ) (x : Tree (of_sql (s.sexp false))) (taken us : List Lexeme) → Spells language n (part (of_sql (s.sexp false)) x ∷ []) taken → behind goes_on false us ≡ false → hits goes_on false a_column (taken ++ us) ≡ false
-no_column n x taken us d h = no_hit language first empty fit goes_on false true column_lead a_column sql_led (of_sql (s.sexp false)) refl n x taken us d (λ _. h)
+pub no_column : (q : Quoting) (n : ℕ) (x : Tree (of_sql q (s.sexp false))) (taken us : List Lexeme) → Spells language n (part (of_sql q (s.sexp false)) x ∷ []) taken → behind goes_on false us ≡ false → hits goes_on false a_column (taken ++ us) ≡ false
+no_column q n x taken us d h = no_hit language first empty fit goes_on false true column_lead a_column sql_led (of_sql q (s.sexp false)) refl n x taken us d (λ _. h)

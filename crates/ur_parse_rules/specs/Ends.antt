@@ -15,7 +15,8 @@ use Rattle.ur_parse_rules.specs.ExpParts as e
 use Rattle.ur_parse_rules.specs.SqlParts as s
 use Rattle.ur_parse_rules.specs.XmlParts as x
 use Rattle.ur_parse_rules.specs.DeclParts as d
-use Rattle.ur_parse_rules.specs.Parts.{Part, of_con, of_exp, of_sql, of_xml, of_decl, Tree, ExpTree, Ended}
+use Rattle.ur_parse_rules.specs.CodeParts as code
+use Rattle.ur_parse_rules.specs.Parts.{Part, of_con, of_exp, of_sql, of_xml, of_decl, of_quote, of_code, Tree, ExpTree, Ended}
 use Rattle.ur_parse_rules.specs.Constructors.{keys_of}
 
 abbrev pub symbols : List Symbol → Classes
@@ -283,9 +284,33 @@ decl_last d.val_decls = keyword_class keyword.Val ∷ con_more false
 decl_last d.val_decl = con_more false
 decl_last _ = []
 
+-- ---- code as the tokens that it is
+
+-- the kinds of tokens but brackets
+abbrev pub plain_kinds : List TokenKind
+plain_kinds = token.Int 0 ∷ token.Lower ∷ token.Upper ∷ token.Str ∷ token.SqlText ∷ token.XmlText ∷ token.Word ∷ token.Keyword keyword.And ∷ token.Keyword keyword.Case ∷ token.Keyword keyword.Con
+    ∷ token.Keyword keyword.Cookie ∷ token.Keyword keyword.Datatype ∷ token.Keyword keyword.Else ∷ token.Keyword keyword.End ∷ token.Keyword keyword.Fn ∷ token.Keyword keyword.Fun
+    ∷ token.Keyword keyword.If ∷ token.Keyword keyword.In ∷ token.Keyword keyword.Let ∷ token.Keyword keyword.Of ∷ token.Keyword keyword.Sequence ∷ token.Keyword keyword.Table
+    ∷ token.Keyword keyword.Then ∷ token.Keyword keyword.Type ∷ token.Keyword keyword.Val ∷ token.Symbol symbol.Comma ∷ token.Symbol symbol.Semicolon ∷ token.Symbol symbol.Colon
+    ∷ token.Symbol symbol.DoubleColon ∷ token.Symbol symbol.Eq ∷ token.Symbol symbol.Ne ∷ token.Symbol symbol.Lt ∷ token.Symbol symbol.Le ∷ token.Symbol symbol.Gt ∷ token.Symbol symbol.Ge
+    ∷ token.Symbol symbol.Arrow ∷ token.Symbol symbol.FatArrow ∷ token.Symbol symbol.LeftArrow ∷ token.Symbol symbol.Tilde ∷ token.Symbol symbol.Plus ∷ token.Symbol symbol.Minus
+    ∷ token.Symbol symbol.Star ∷ token.Symbol symbol.Slash ∷ token.Symbol symbol.Percent ∷ token.Symbol symbol.Caret ∷ token.Symbol symbol.DoublePlus ∷ token.Symbol symbol.DoubleMinus
+    ∷ token.Symbol symbol.AndAnd ∷ token.Symbol symbol.OrOr ∷ token.Symbol symbol.Dot ∷ token.Symbol symbol.Hash ∷ token.Symbol symbol.Dollar ∷ token.Symbol symbol.Underscore
+    ∷ token.Symbol symbol.Bar ∷ token.Symbol symbol.XmlOpen ∷ token.Symbol symbol.XmlEmpty ∷ token.Symbol symbol.XmlClose ∷ token.Symbol symbol.TagClose ∷ token.Symbol symbol.TagEmpty
+    ∷ []
+
+abbrev pub code_starts : Classes
+code_starts = symbols (symbol.LParen ∷ symbol.LBracket ∷ symbol.LBrace ∷ []) ++ map all_of plain_kinds
+
+abbrev pub code_last : code.CodePart → Classes
+code_last code.pieces = code_starts
+code_last code.piece = []
+
 abbrev pub more : (p : Part) → Tree p → TokenKind → Text → Bool
 more (of_con p) a = member (con_last p)
 more (of_exp p) a = more_exps p a
-more (of_sql p) a = member (sql_last p)
-more (of_xml p) a = member (xml_last p)
+more (of_sql q p) a = member (sql_last p)
+more (of_xml q p) a = member (xml_last p)
 more (of_decl p) a = member (decl_last p)
+more (of_quote q) a = member code_starts
+more (of_code p) a = member (code_last p)

@@ -21,6 +21,7 @@ use Rattle.ur_grammar.specs.Rules.{name, number, Rule}
 use Rattle.ur_grammar.specs.Places.{any}
 use Rattle.ur_parse_rules.specs.Words.{is_field, is_name}
 use Rattle.ur_parse_rules.specs.ConParts as c
+use Rattle.ur_parse_rules.specs.Quoted.{expressions}
 use Rattle.ur_parse_rules.specs.SqlParts as s
 use Rattle.ur_parse_rules.specs.XmlParts as x
 use Rattle.ur_parse_rules.specs.ExpParts.{Level, disjunction, conjunction, append, sum, product, ExpPart, exp, rest, line, lambda, bar, branches, more_branches, left, operand, left_tail, left_step, comparison, comparison_tail, cons, cons_tail, negative, app, args, arg, bracketed, head, post, base, capital_rest, member, nil_end, dot, dots, paren_rest, field, fields, fields_tail, let_val, let_vals, removed, binder, param, param_rest, lambda_param, lambda_params, pat, pat_cons, pat_rest, pat_argument}
@@ -147,7 +148,7 @@ abbrev pub word_form : Text → (Exp → ExpForm) → Rule Tree Exp
 word_form w f = spanned (small w ∷ exp_slot (post false) ∷ []) (λ span (a, _). at span (f a))
 
 abbrev pub query_form : Text → QueryWord → Rule Tree Exp
-query_form w q = spanned (small w ∷ symbol_mark symbol.LParen ∷ sql_slot s.query ∷ symbol_mark symbol.RParen ∷ []) (λ span (a, _). at span (form.Query q (a.at 0 0) a.exps))
+query_form w q = spanned (small w ∷ symbol_mark symbol.LParen ∷ sql_slot expressions s.query ∷ symbol_mark symbol.RParen ∷ []) (λ span (a, _). at span (form.Query q (a.at 0 0) a.exps))
 
 abbrev pub exp_rules : (p : ExpPart) → List (Rule Tree (ExpTree p))
 exp_rules exp =
@@ -220,12 +221,12 @@ exp_rules head =
     rule (exp_slot (post true) ∷ []) (λ (a, _). a) ∷
     word_form (codes "return") (λ a. form.Return a) ∷ word_form (codes "show") (λ a. form.Show a) ∷ word_form (codes "not") (λ a. form.Not a) ∷ word_form (codes "error") (λ a. form.Error a) ∷
     spanned (capital (codes "Some") ∷ exp_slot (post false) ∷ []) (λ span (a, _). at span (form.Some a)) ∷
-    spanned (small (codes "nextval") ∷ sql_slot s.name ∷ []) (λ span (n, _). at span (form.Nextval n)) ∷
-    spanned (small (codes "getCookie") ∷ sql_slot s.name ∷ []) (λ span (n, _). at span (form.GetCookie n)) ∷
-    spanned (small (codes "setCookie") ∷ sql_slot s.name ∷ exp_slot (post false) ∷ []) (λ span (n, (a, _)). at span (form.SetCookie n a)) ∷
-    spanned (small (codes "dml") ∷ symbol_mark symbol.LParen ∷ sql_slot s.change ∷ symbol_mark symbol.RParen ∷ []) (λ span (a, _). at span (form.Dml (a.at 0 0) a.exps)) ∷
+    spanned (small (codes "nextval") ∷ sql_slot expressions s.name ∷ []) (λ span (n, _). at span (form.Nextval n)) ∷
+    spanned (small (codes "getCookie") ∷ sql_slot expressions s.name ∷ []) (λ span (n, _). at span (form.GetCookie n)) ∷
+    spanned (small (codes "setCookie") ∷ sql_slot expressions s.name ∷ exp_slot (post false) ∷ []) (λ span (n, (a, _)). at span (form.SetCookie n a)) ∷
+    spanned (small (codes "dml") ∷ symbol_mark symbol.LParen ∷ sql_slot expressions s.change ∷ symbol_mark symbol.RParen ∷ []) (λ span (a, _). at span (form.Dml (a.at 0 0) a.exps)) ∷
     query_form (codes "queryL") query_words.QueryL ∷ query_form (codes "oneRow") query_words.OneRow ∷ query_form (codes "oneOrNoRows") query_words.OneOrNoRows ∷
-    spanned (small (codes "queryX") ∷ symbol_mark symbol.LParen ∷ sql_slot s.query ∷ symbol_mark symbol.RParen ∷ symbol_mark symbol.LParen ∷ exp_slot lambda ∷ symbol_mark symbol.RParen ∷ [])
+    spanned (small (codes "queryX") ∷ symbol_mark symbol.LParen ∷ sql_slot expressions s.query ∷ symbol_mark symbol.RParen ∷ symbol_mark symbol.LParen ∷ exp_slot lambda ∷ symbol_mark symbol.RParen ∷ [])
     (λ span (a, (f, _)). at span (form.QueryX (a.at 0 0) a.exps f.exp)) ∷
     spanned (small (codes "fold") ∷ symbol_mark symbol.LBracket ∷ con_slot (c.con places.Plain) ∷ symbol_mark symbol.RBracket ∷ exp_slot (post false) ∷ exp_slot (post false)
     ∷ symbol_mark symbol.LBracket ∷ con_slot (c.con places.Plain) ∷ symbol_mark symbol.RBracket ∷ [])
@@ -240,7 +241,7 @@ exp_rules (base first) =
     spanned (name token.Lower (is_name first) ∷ []) (λ span (y, _). at span (form.Var y)) ∷
     spanned (symbol_mark symbol.LParen ∷ exp_slot paren_rest ∷ []) (λ span (a, _). paren_of span a) ∷
     spanned (symbol_mark symbol.LBrace ∷ exp_slot fields ∷ []) (λ span (fs, _). at span (form.Record fs)) ∷
-    spanned (xml_slot x.literal ∷ []) (λ span (l, _). at span (form.Xml (l.at 0 0) l.exps l.attributes)) ∷
+    spanned (xml_slot expressions x.literal ∷ []) (λ span (l, _). at span (form.Xml (l.at 0 0) l.exps l.attributes)) ∷
     spanned (keyword_mark keyword.Let ∷ exp_slot let_val ∷ exp_slot let_vals ∷ keyword_mark keyword.In ∷ exp_slot exp ∷ keyword_mark keyword.End ∷ [])
     (λ span (v, (vs, (a, _))). at span (form.Let (v ∷ vs) a.exp)) ∷ []
 exp_rules capital_rest =

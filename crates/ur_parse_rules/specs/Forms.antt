@@ -12,7 +12,9 @@ use Rattle.ur_parse_rules.specs.ExpParts.{ExpPart}
 use Rattle.ur_parse_rules.specs.SqlParts.{SqlPart}
 use Rattle.ur_parse_rules.specs.XmlParts.{XmlPart}
 use Rattle.ur_parse_rules.specs.DeclParts.{DeclPart}
-use Rattle.ur_parse_rules.specs.Parts.{Part, Tree, of_con, of_exp, of_sql, of_xml, of_decl}
+use Rattle.ur_parse_rules.specs.CodeParts.{CodePart}
+use Rattle.ur_parse_rules.specs.Quoted.{Quoting}
+use Rattle.ur_parse_rules.specs.Parts.{Part, Tree, of_con, of_exp, of_sql, of_xml, of_decl, of_quote, of_code}
 
 -- a rule that asks nothing and builds without a span
 abbrev pub rule : {T : Type 0} (slots : List (Slot Part)) → (Values Tree slots → T) → Rule Tree T
@@ -41,14 +43,20 @@ con_slot p = one (of_con p)
 abbrev pub exp_slot : ExpPart → Slot Part
 exp_slot p = one (of_exp p)
 
-abbrev pub sql_slot : SqlPart → Slot Part
-sql_slot p = one (of_sql p)
+abbrev pub sql_slot : Quoting → SqlPart → Slot Part
+sql_slot q p = one (of_sql q p)
 
-abbrev pub xml_slot : XmlPart → Slot Part
-xml_slot p = one (of_xml p)
+abbrev pub xml_slot : Quoting → XmlPart → Slot Part
+xml_slot q p = one (of_xml q p)
 
 abbrev pub decl_slot : DeclPart → Slot Part
 decl_slot p = one (of_decl p)
+
+abbrev pub quote_slot : Quoting → Slot Part
+quote_slot q = one (of_quote q)
+
+abbrev pub code_slot : CodePart → Slot Part
+code_slot p = one (of_code p)
 
 -- from the begin of the one to the end of the other
 abbrev pub up_to : Span → Span → Span

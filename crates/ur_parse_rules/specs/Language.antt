@@ -5,28 +5,33 @@ use Rattle.ur_syntax.specs.declared.decl.Module.{Module}
 use Rattle.ur_syntax.specs.declared.decl.Signature.{Signature}
 use Rattle.ur_grammar.specs.Rules.{Rule, Grammar, part, Spells}
 use Rattle.ur_parse_rules.specs.DeclParts as d
-use Rattle.ur_parse_rules.specs.Parts.{Part, of_con, of_exp, of_sql, of_xml, of_decl, Tree}
+use Rattle.ur_parse_rules.specs.Parts.{Part, of_con, of_exp, of_sql, of_xml, of_decl, of_quote, of_code, Tree}
 use Rattle.ur_parse_rules.specs.Constructors.{con_rules, con_cost}
 use Rattle.ur_parse_rules.specs.Expressions.{exp_rules, exp_cost}
 use Rattle.ur_parse_rules.specs.Statements.{sql_rules, sql_cost}
 use Rattle.ur_parse_rules.specs.Markup.{xml_rules, xml_cost}
 use Rattle.ur_parse_rules.specs.Declarations.{decl_rules}
+use Rattle.ur_parse_rules.specs.Codes.{quote_rules, code_rules}
 use Rattle.ur_parse_rules.specs.Ends.{more}
 
 abbrev pub rules : (p : Part) → List (Rule Tree (Tree p))
 rules (of_con p) = con_rules p
 rules (of_exp p) = exp_rules p
-rules (of_sql p) = sql_rules p
-rules (of_xml p) = xml_rules p
+rules (of_sql q p) = sql_rules q p
+rules (of_xml q p) = xml_rules q p
 rules (of_decl p) = decl_rules p
+rules (of_quote q) = quote_rules q
+rules (of_code p) = code_rules p
 
 -- constructors, expressions, expressions of SQL and elements count for nesting
 abbrev pub cost : Part → ℕ
 cost (of_con p) = con_cost p
 cost (of_exp p) = exp_cost p
-cost (of_sql p) = sql_cost p
-cost (of_xml p) = xml_cost p
+cost (of_sql q p) = sql_cost p
+cost (of_xml q p) = xml_cost p
 cost (of_decl p) = 0
+cost (of_quote q) = 0
+cost (of_code p) = 0
 
 abbrev pub language : Grammar Tree
 language = record { rules = rules; cost = cost; more = more }

@@ -6,6 +6,7 @@ pub mod ExpParts
 pub mod SqlParts
 pub mod XmlParts
 pub mod DeclParts
+pub mod CodeParts
 pub mod Parts
 pub mod Forms
 pub mod Constructors
@@ -16,5 +17,6 @@ pub mod Patterns
 pub mod Expressions
 pub mod Declarations
 pub mod Ends
+pub mod Codes
 pub mod Language
 pub mod Laws

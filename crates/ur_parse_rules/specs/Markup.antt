@@ -16,12 +16,11 @@ use Rattle.ur_syntax.specs.declared.xml.AttrValue.TheVariants as attr_values
 use Rattle.ur_grammar.specs.Rules.{name, Rule}
 use Rattle.ur_grammar.specs.Places.{any}
 use Rattle.ur_parse_rules.specs.Words.{is_field}
-use Rattle.ur_parse_rules.specs.Quoted.{Quoted, plain, antiquote, attribute, mapped, both, cons}
-use Rattle.ur_parse_rules.specs.ExpParts as e
+use Rattle.ur_parse_rules.specs.Quoted.{Quoting, Quoted, plain, antiquote, attribute, mapped, both, cons, deeper}
 use Rattle.ur_parse_rules.specs.SqlParts as s
 use Rattle.ur_parse_rules.specs.XmlParts.{XmlPart, literal, parts, one_part, element, element_end, tag, tag_field, tag_name, attrs, attr, attr_value}
 use Rattle.ur_parse_rules.specs.Parts.{Tree, XmlTree, Inside}
-use Rattle.ur_parse_rules.specs.Forms.{rule, spanned, symbol_mark, exp_slot, sql_slot, xml_slot}
+use Rattle.ur_parse_rules.specs.Forms.{rule, spanned, symbol_mark, sql_slot, xml_slot, quote_slot}
 
 abbrev pub literal_of : List XmlNode → Xml
 literal_of ps = record { parts = ps }
@@ -36,54 +35,54 @@ abbrev pub element_of : Span → Tag → List Attr → List XmlNode → XmlNode
 element_of span t as_ ps = record { span = span; form = form.Element t as_ ps }
 
 -- the parts between the tags, if there are two
-abbrev pub inner : Option Inside → Quoted (List XmlNode)
+abbrev pub inner : {E : Type 0} → Option (Inside E) → Quoted E (List XmlNode)
 inner None = plain []
 inner (Some i) = i.parts
 
 -- an opening and a closing tag have the same word
-abbrev pub closes : Tag → Option Inside → Bool
+abbrev pub closes : {E : Type 0} → Tag → Option (Inside E) → Bool
 closes t None = true
 closes t (Some i) = bytes_eq t.word i.closing.word
 
 abbrev pub attr_of : Text → AttrValue → Attr
 attr_of x a = record { name = x; value = a }
 
-abbrev pub xml_rules : (p : XmlPart) → List (Rule Tree (XmlTree p))
-xml_rules literal =
-    rule (symbol_mark symbol.XmlOpen ∷ xml_slot parts ∷ symbol_mark symbol.XmlClose ∷ []) (λ (ps, _). mapped literal_of ps) ∷
+abbrev pub xml_rules : (q : Quoting) (p : XmlPart) → List (Rule Tree (XmlTree q p))
+xml_rules q literal =
+    rule (symbol_mark symbol.XmlOpen ∷ xml_slot q parts ∷ symbol_mark symbol.XmlClose ∷ []) (λ (ps, _). mapped literal_of ps) ∷
     rule (symbol_mark symbol.XmlEmpty ∷ []) (λ _. plain (literal_of [])) ∷ []
-xml_rules parts =
+xml_rules q parts =
     rule [] (λ _. plain []) ∷
-    rule (xml_slot one_part ∷ xml_slot parts ∷ []) (λ (a, (ps, _)). both cons a ps) ∷ []
-xml_rules one_part =
+    rule (xml_slot q one_part ∷ xml_slot q parts ∷ []) (λ (a, (ps, _)). both cons a ps) ∷ []
+xml_rules q one_part =
     spanned (name token.XmlText any ∷ []) (λ span (t, _). plain (record { span = span; form = form.Text t })) ∷
-    spanned (symbol_mark symbol.LBrace ∷ exp_slot e.exp ∷ symbol_mark symbol.RBrace ∷ []) (λ span (a, _). mapped (splice span) (antiquote a.exp)) ∷
-    spanned (sql_slot s.anti ∷ []) (λ span (a, _). mapped (show span) (antiquote a)) ∷
-    rule (xml_slot element ∷ []) (λ (a, _). a) ∷ []
-xml_rules element =
+    spanned (symbol_mark symbol.LBrace ∷ quote_slot q ∷ symbol_mark symbol.RBrace ∷ []) (λ span (a, _). mapped (splice span) (antiquote a)) ∷
+    spanned (sql_slot q s.anti ∷ []) (λ span (a, _). mapped (show span) (antiquote a)) ∷
+    rule (xml_slot q element ∷ []) (λ (a, _). a) ∷ []
+xml_rules q element =
     record {
-      slots = symbol_mark symbol.Lt ∷ xml_slot tag ∷ xml_slot attrs ∷ xml_slot element_end ∷ [];
+      slots = symbol_mark symbol.Lt ∷ xml_slot q tag ∷ xml_slot q attrs ∷ xml_slot q element_end ∷ [];
       spanned = true;
       allows = λ (t, (as_, (i, _))). closes t i;
-      build = λ span (t, (as_, (i, _))). both (element_of span t) as_ (inner i);
+      build = λ span (t, (as_, (i, _))). deeper q (both (element_of span t) as_ (inner i));
     } ∷ []
-xml_rules element_end =
+xml_rules q element_end =
     rule (symbol_mark symbol.TagEmpty ∷ []) (λ _. None) ∷
-    rule (symbol_mark symbol.Gt ∷ xml_slot parts ∷ symbol_mark symbol.TagClose ∷ xml_slot tag ∷ symbol_mark symbol.Gt ∷ []) (λ (ps, (t, _)). Some (record { parts = ps; closing = t })) ∷ []
-xml_rules tag = rule (name token.Word any ∷ xml_slot tag_field ∷ []) (λ (w, (f, _)). record { word = w; field = f }) ∷ []
-xml_rules tag_field =
+    rule (symbol_mark symbol.Gt ∷ xml_slot q parts ∷ symbol_mark symbol.TagClose ∷ xml_slot q tag ∷ symbol_mark symbol.Gt ∷ []) (λ (ps, (t, _)). Some (record { parts = ps; closing = t })) ∷ []
+xml_rules q tag = rule (name token.Word any ∷ xml_slot q tag_field ∷ []) (λ (w, (f, _)). record { word = w; field = f }) ∷ []
+xml_rules q tag_field =
     rule [] (λ _. tag_fields.None) ∷
-    rule (symbol_mark symbol.LBrace ∷ xml_slot tag_name ∷ symbol_mark symbol.RBrace ∷ []) (λ (f, _). f) ∷ []
-xml_rules tag_name =
+    rule (symbol_mark symbol.LBrace ∷ xml_slot q tag_name ∷ symbol_mark symbol.RBrace ∷ []) (λ (f, _). f) ∷ []
+xml_rules q tag_name =
     rule (symbol_mark symbol.Hash ∷ name token.Upper is_field ∷ []) (λ (a, _). tag_fields.Literal a) ∷
     rule (name token.Lower any ∷ []) (λ (x, _). tag_fields.Variable x) ∷ []
-xml_rules attrs =
+xml_rules q attrs =
     rule [] (λ _. plain []) ∷
-    rule (xml_slot attr ∷ xml_slot attrs ∷ []) (λ (a, (as_, _)). both cons a as_) ∷ []
-xml_rules attr = rule (name token.Word any ∷ symbol_mark symbol.Eq ∷ xml_slot attr_value ∷ []) (λ (x, (a, _)). mapped (attr_of x) a) ∷ []
-xml_rules attr_value =
+    rule (xml_slot q attr ∷ xml_slot q attrs ∷ []) (λ (a, (as_, _)). both cons a as_) ∷ []
+xml_rules q attr = rule (name token.Word any ∷ symbol_mark symbol.Eq ∷ xml_slot q attr_value ∷ []) (λ (x, (a, _)). mapped (attr_of x) a) ∷ []
+xml_rules q attr_value =
     rule (name token.Str any ∷ []) (λ (t, _). plain (attr_values.Text t)) ∷
-    rule (symbol_mark symbol.LBrace ∷ exp_slot e.exp ∷ symbol_mark symbol.RBrace ∷ []) (λ (a, _). mapped (λ n. attr_values.Exp n) (attribute a.exp)) ∷ []
+    rule (symbol_mark symbol.LBrace ∷ quote_slot q ∷ symbol_mark symbol.RBrace ∷ []) (λ (a, _). mapped (λ n. attr_values.Exp n) (attribute a)) ∷ []
 
 -- elements count for nesting
 abbrev pub xml_cost : XmlPart → ℕ

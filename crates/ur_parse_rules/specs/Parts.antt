@@ -45,19 +45,25 @@ use Rattle.ur_syntax.specs.declared.decl.Variant.{Variant}
 use Rattle.ur_syntax.specs.declared.decl.Constraint.{Constraint}
 use Rattle.ur_syntax.specs.declared.decl.FunDef.{FunDef}
 use Rattle.ur_syntax.specs.declared.decl.ValDecl.{ValDecl}
-use Rattle.ur_parse_rules.specs.Quoted.{Quoted}
+use Rattle.ur_lex.specs.declared.token.Lexeme.{Lexeme}
+use Rattle.ur_parse_rules.specs.Quoted.{Quoting, Code, Quoted}
 use Rattle.ur_parse_rules.specs.ConParts as c
 use Rattle.ur_parse_rules.specs.ExpParts as e
 use Rattle.ur_parse_rules.specs.SqlParts as s
 use Rattle.ur_parse_rules.specs.XmlParts as x
 use Rattle.ur_parse_rules.specs.DeclParts as d
+use Rattle.ur_parse_rules.specs.CodeParts as code
 
+-- SQL and XML stand twice, by how the code of their antiquotes is read. Modules have the one with expressions.
 pub data Part : Type 0 where
   of_con : c.ConPart → Part
   of_exp : e.ExpPart → Part
-  of_sql : s.SqlPart → Part
-  of_xml : x.XmlPart → Part
+  of_sql : Quoting → s.SqlPart → Part
+  of_xml : Quoting → x.XmlPart → Part
   of_decl : d.DeclPart → Part
+  -- the code of an antiquote
+  of_quote : Quoting → Part
+  of_code : code.CodePart → Part
 
 -- ---- trees that are put together further up
 
@@ -121,14 +127,14 @@ pub data PatRest : Type 0 where
   of_module : Text → Argument → PatRest
 
 -- the right side of a comparison in SQL
-pub data SqlRight : Type 0 where
-  compared : SqlBinary → Quoted SqlExp → SqlRight
-  null : Bool → SqlRight
+pub data SqlRight (E : Type 0) : Type 0 where
+  compared : SqlBinary → Quoted E SqlExp → SqlRight E
+  null : Bool → SqlRight E
 
-pub record SqlStep : Type 0 where
+pub record SqlStep (E : Type 0) : Type 0 where
   pub span : Span
   pub op : SqlBinary
-  pub right : Quoted SqlExp
+  pub right : Quoted E SqlExp
 
 -- the columns of a key, where they end, and the constraints behind them
 pub record KeyColumns : Type 0 where
@@ -149,8 +155,8 @@ pub record Keys : Type 0 where
   pub constraints : List Constraint
 
 -- the parts of an element and its closing tag
-pub record Inside : Type 0 where
-  pub parts : Quoted (List XmlNode)
+pub record Inside (E : Type 0) : Type 0 where
+  pub parts : Quoted E (List XmlNode)
   pub closing : Tag
 
 -- ---- the tree of each nonterminal
@@ -224,58 +230,58 @@ ExpTree e.pat_cons = Option Binder
 ExpTree e.pat_rest = PatRest
 ExpTree e.pat_argument = Argument
 
-abbrev pub SqlTree : s.SqlPart → Type 0
-SqlTree (s.sexp bare) = Quoted SqlExp
-SqlTree (s.left bare l) = Quoted SqlExp
-SqlTree (s.operand bare l) = Quoted SqlExp
-SqlTree (s.left_tail bare l) = List SqlStep
-SqlTree (s.left_step bare l) = SqlStep
-SqlTree (s.negation bare) = Quoted SqlExp
-SqlTree (s.comparison bare) = Quoted SqlExp
-SqlTree (s.comparison_tail bare) = Option SqlRight
-SqlTree s.is_rest = Bool
-SqlTree (s.negative bare) = Quoted SqlExp
-SqlTree (s.atom bare) = Quoted SqlExp
-SqlTree (s.column bare) = SqlExp
-SqlTree s.qualifier = Option Text
-SqlTree s.anti = Exp
-SqlTree s.name = DeclName
-SqlTree s.query = Quoted SqlQuery
-SqlTree s.selection = Quoted Selection
-SqlTree s.selected = Quoted Selected
-SqlTree s.more_selected = Quoted (List Selected)
-SqlTree s.aggregate = Quoted Aggregate
-SqlTree s.item = FromItem
-SqlTree s.alias = Option Text
-SqlTree s.more_items = Quoted (List FromItem)
-SqlTree (s.filter bare) = Quoted (Option SqlExp)
-SqlTree s.group = List SqlExp
-SqlTree s.more_columns = List SqlExp
-SqlTree s.order = Quoted (List OrderKey)
-SqlTree s.order_key = Quoted OrderKey
-SqlTree s.direction = Direction
-SqlTree s.more_keys = Quoted (List OrderKey)
-SqlTree s.limit = Quoted (Option Limit)
-SqlTree s.offset = Quoted (Option Limit)
-SqlTree s.amount = Quoted Limit
-SqlTree s.change = Quoted SqlChange
-SqlTree s.columns_end = List Text
-SqlTree s.values_end = Quoted (List SqlExp)
-SqlTree s.assignment = Quoted Assignment
-SqlTree s.more_assignments = Quoted (List Assignment)
+abbrev pub SqlTree : Quoting → s.SqlPart → Type 0
+SqlTree q (s.sexp bare) = Quoted (Code q) SqlExp
+SqlTree q (s.left bare l) = Quoted (Code q) SqlExp
+SqlTree q (s.operand bare l) = Quoted (Code q) SqlExp
+SqlTree q (s.left_tail bare l) = List (SqlStep (Code q))
+SqlTree q (s.left_step bare l) = SqlStep (Code q)
+SqlTree q (s.negation bare) = Quoted (Code q) SqlExp
+SqlTree q (s.comparison bare) = Quoted (Code q) SqlExp
+SqlTree q (s.comparison_tail bare) = Option (SqlRight (Code q))
+SqlTree q s.is_rest = Bool
+SqlTree q (s.negative bare) = Quoted (Code q) SqlExp
+SqlTree q (s.atom bare) = Quoted (Code q) SqlExp
+SqlTree q (s.column bare) = SqlExp
+SqlTree q s.qualifier = Option Text
+SqlTree q s.anti = Code q
+SqlTree q s.name = DeclName
+SqlTree q s.query = Quoted (Code q) SqlQuery
+SqlTree q s.selection = Quoted (Code q) Selection
+SqlTree q s.selected = Quoted (Code q) Selected
+SqlTree q s.more_selected = Quoted (Code q) (List Selected)
+SqlTree q s.aggregate = Quoted (Code q) Aggregate
+SqlTree q s.item = FromItem
+SqlTree q s.alias = Option Text
+SqlTree q s.more_items = Quoted (Code q) (List FromItem)
+SqlTree q (s.filter bare) = Quoted (Code q) (Option SqlExp)
+SqlTree q s.group = List SqlExp
+SqlTree q s.more_columns = List SqlExp
+SqlTree q s.order = Quoted (Code q) (List OrderKey)
+SqlTree q s.order_key = Quoted (Code q) OrderKey
+SqlTree q s.direction = Direction
+SqlTree q s.more_keys = Quoted (Code q) (List OrderKey)
+SqlTree q s.limit = Quoted (Code q) (Option Limit)
+SqlTree q s.offset = Quoted (Code q) (Option Limit)
+SqlTree q s.amount = Quoted (Code q) Limit
+SqlTree q s.change = Quoted (Code q) SqlChange
+SqlTree q s.columns_end = List Text
+SqlTree q s.values_end = Quoted (Code q) (List SqlExp)
+SqlTree q s.assignment = Quoted (Code q) Assignment
+SqlTree q s.more_assignments = Quoted (Code q) (List Assignment)
 
-abbrev pub XmlTree : x.XmlPart → Type 0
-XmlTree x.literal = Quoted Xml
-XmlTree x.parts = Quoted (List XmlNode)
-XmlTree x.one_part = Quoted XmlNode
-XmlTree x.element = Quoted XmlNode
-XmlTree x.element_end = Option Inside
-XmlTree x.tag = Tag
-XmlTree x.tag_field = TagField
-XmlTree x.tag_name = TagField
-XmlTree x.attrs = Quoted (List Attr)
-XmlTree x.attr = Quoted Attr
-XmlTree x.attr_value = Quoted AttrValue
+abbrev pub XmlTree : Quoting → x.XmlPart → Type 0
+XmlTree q x.literal = Quoted (Code q) Xml
+XmlTree q x.parts = Quoted (Code q) (List XmlNode)
+XmlTree q x.one_part = Quoted (Code q) XmlNode
+XmlTree q x.element = Quoted (Code q) XmlNode
+XmlTree q x.element_end = Option (Inside (Code q))
+XmlTree q x.tag = Tag
+XmlTree q x.tag_field = TagField
+XmlTree q x.tag_name = TagField
+XmlTree q x.attrs = Quoted (Code q) (List Attr)
+XmlTree q x.attr = Quoted (Code q) Attr
+XmlTree q x.attr_value = Quoted (Code q) AttrValue
 
 abbrev pub DeclTree : d.DeclPart → Type 0
 DeclTree d.whole = Module
@@ -304,6 +310,8 @@ DeclTree d.val_decl = ValDecl
 abbrev pub Tree : Part → Type 0
 Tree (of_con p) = ConTree p
 Tree (of_exp p) = ExpTree p
-Tree (of_sql p) = SqlTree p
-Tree (of_xml p) = XmlTree p
+Tree (of_sql q p) = SqlTree q p
+Tree (of_xml q p) = XmlTree q p
 Tree (of_decl p) = DeclTree p
+Tree (of_quote q) = Code q
+Tree (of_code p) = List Lexeme

@@ -1,11 +1,12 @@
 //! Any tokens have at most one tree.
 ghost use Rattle.ur_grammar.specs.Rules.{OneTree};
+ghost use Rattle.ur_parse_rules.specs.Quoted.{Quoting};
 ghost use Rattle.ur_parse_rules.specs.ConParts as c;
 ghost use Rattle.ur_parse_rules.specs.ExpParts as e;
 ghost use Rattle.ur_parse_rules.specs.SqlParts as s;
 ghost use Rattle.ur_parse_rules.specs.XmlParts as x;
 ghost use Rattle.ur_parse_rules.specs.DeclParts as d;
-ghost use Rattle.ur_parse_rules.specs.Parts.{of_con, of_exp, of_sql, of_xml, of_decl};
+ghost use Rattle.ur_parse_rules.specs.Parts.{of_con, of_exp, of_sql, of_xml, of_decl, of_quote};
 ghost use Rattle.ur_parse_rules.specs.Language.{language, IsModule, IsSignature};
 ghost use Rattle.ur_parse_rules.specs.Laws.{HasOneTree};
 
@@ -19,14 +20,19 @@ pub fn one_expression()
     ensures { (p : e.ExpPart) → OneTree language (of_exp p) }
 {}
 
-/// Of SQL's queries, changes and expressions.
+/// Of SQL's queries, changes and expressions, and of their skeletons.
 pub fn one_statement()
-    ensures { (p : s.SqlPart) → OneTree language (of_sql p) }
+    ensures { (q : Quoting) (p : s.SqlPart) → OneTree language (of_sql q p) }
 {}
 
-/// Of XML.
+/// Of XML, and of its skeletons.
 pub fn one_literal()
-    ensures { (p : x.XmlPart) → OneTree language (of_xml p) }
+    ensures { (q : Quoting) (p : x.XmlPart) → OneTree language (of_xml q p) }
+{}
+
+/// Of the code of antiquotes: an expression, or tokens with their brackets in pairs.
+pub fn one_quote()
+    ensures { (q : Quoting) → OneTree language (of_quote q) }
 {}
 
 /// Of declarations.

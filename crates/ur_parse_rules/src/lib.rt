@@ -5,7 +5,7 @@ mod law;
 mod place;
 
 pub use law::{
-    one_constructor, one_declaration, one_expression, one_literal, one_module, one_signature,
-    one_statement,
+    one_constructor, one_declaration, one_expression, one_literal, one_module, one_quote,
+    one_signature, one_statement,
 };
 pub use place::ConPlace;

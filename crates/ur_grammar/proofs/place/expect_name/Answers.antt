@@ -1,4 +1,3 @@
-use Rattle.std.proofs.Common.{rules, arith, refl}
 use Rattle.ur_grammar.proofs.place.expect_name.Goals as goal
 use Rattle.ur_grammar.proofs.Tokens.{any_name}
 

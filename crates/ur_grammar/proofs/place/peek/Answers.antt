@@ -1,4 +1,4 @@
-use Rattle.std.proofs.Common.{arith, ◌≡◌, sym}
+use Rattle.std.proofs.Common.{arith}
 use Rattle.ur_grammar.proofs.Tokens.{sees}
 use Rattle.ur_grammar.proofs.place.peek.Goals as goal
 

@@ -1,8 +1,5 @@
-use Rattle.std.proofs.Common.{rules, arith, ◌≡◌, refl, ◌∙◌, sym, Some, false, true}
-use Rattle.std.specs.Prelude.{IfSome}
-use Rattle.ur_lex.specs.declared.token.Lexeme.{Lexeme}
-use Rattle.ur_grammar.specs.Places.{At}
-use Rattle.ur_grammar.proofs.Tokens.{at_get, at_of, content_at}
+use Rattle.std.proofs.Common.{◌≡◌, refl, ◌∙◌, sym, false, true}
+use Rattle.ur_grammar.proofs.Tokens.{at_of, content_at}
 use Rattle.ur_grammar.proofs.place.sees_word.Goals as goal
 
 pub returns-then-sees-clause-yes : goal.returns-then-sees-clause-yes

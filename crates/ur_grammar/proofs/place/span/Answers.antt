@@ -1,4 +1,4 @@
-use Rattle.std.proofs.Common.{rules, arith}
+use Rattle.std.proofs.Common.{arith}
 use Rattle.ur_grammar.proofs.Tokens.{span_is}
 use Rattle.ur_grammar.proofs.place.span.Goals as goal
 

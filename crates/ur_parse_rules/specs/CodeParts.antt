@@ -1,0 +1,4 @@
+-- The nonterminals of code that is read as the tokens that it is.
+pub data CodePart : Type 0 where
+  pieces : CodePart
+  piece : CodePart
