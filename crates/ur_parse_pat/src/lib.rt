@@ -1,0 +1,12 @@
+//! Binders and patterns are read.
+#![tactic(auto)]
+
+mod behind;
+mod binder;
+mod capital;
+mod pattern;
+#[cfg(test)]
+mod tests;
+
+pub use binder::{read_binder, sees_binder};
+pub use pattern::read_pat;
