@@ -1,0 +1,3 @@
+pub mod Quotes
+pub mod Brackets
+pub mod Absent

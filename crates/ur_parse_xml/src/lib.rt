@@ -1,0 +1,10 @@
+//! XML literals are read, with the code of their antiquotes as the tokens that it is.
+#![tactic(auto)]
+
+mod attrs;
+mod parts;
+mod tags;
+#[cfg(test)]
+mod tests;
+
+pub use parts::literal as read_literal;
