@@ -1,0 +1,10 @@
+pub mod Completed
+pub mod Filling
+pub mod Laws
+pub mod Pairs
+pub mod SqlTwins
+pub mod Stripped
+pub mod Trimmed
+pub mod Twins
+pub mod Walks
+pub mod XmlTwins
