@@ -1,0 +1,14 @@
+pub mod Examples
+pub mod Alike
+pub mod Steady
+pub mod Bound
+pub mod Equations
+pub mod Cost
+pub mod Shift
+pub mod Typed
+pub mod Inhabiting
+pub mod TypedValues
+pub mod TypedPatterns
+pub mod Ints
+pub mod TypedFields
+pub mod TypedDeeds

@@ -1,0 +1,10 @@
+pub mod State
+pub mod Values
+pub mod Ops
+pub mod Run
+pub mod Types
+pub mod Shape
+pub mod Inhabits
+pub mod Cost
+pub mod Sound
+pub mod Laws
