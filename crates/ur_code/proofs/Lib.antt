@@ -1,0 +1,11 @@
+pub mod Examples
+pub mod Links
+pub mod Numbers
+pub mod KindTypes
+pub mod Members
+pub mod Requests
+pub mod TypedAnswers
+pub mod TypedChanges
+pub mod TypedRows
+pub mod TypedScalars
+pub mod Unstuck
