@@ -1,0 +1,14 @@
+pub mod Stacks
+pub mod Leading
+pub mod Forms
+pub mod Branches
+pub mod Descending
+pub mod Views
+pub mod Entering
+pub mod Giving
+pub mod Playing
+pub mod Starting
+pub mod Pure
+pub mod Blind
+pub mod Resuming
+pub mod Agreeing

@@ -1,0 +1,15 @@
+use Rattle.ur_terms.specs.Run.{outcome_of}
+use Rattle.ur_frames.specs.declared.frame.Frame.TheVariants as frame
+use Rattle.ur_frames.specs.Plays.{until}
+use Rattle.ur_frames.specs.Steps.{going}
+use Rattle.ur_frames.proofs.Leading.{not_stuck}
+use Rattle.ur_frames.proofs.Views.{stuck_choice, stuck_choice_value, no_bool}
+use Rattle.ur_frames.proofs.frame.Machine.choose.Goals as goal
+
+pub unreachable-requires : goal.unreachable-requires
+unreachable-requires c = not_stuck c.args.functions.now c.args.self.now (going c.args.functions.now frame.Condition c.args.place.now c.args.value) c.requires.safe
+    (stuck_choice_value until (outcome_of until c.args.functions.now) c.args.place.now c.args.self.now.values c.args.value _ (no_bool c.args.value c.in_default.not-Bool))
+
+pub unreachable-requires-in_default-place : goal.unreachable-requires-in_default-place
+unreachable-requires-in_default-place c = not_stuck c.args.functions.now c.args.self.now (going c.args.functions.now frame.Condition c.args.place.now c.args.value) c.requires.safe
+    (stuck_choice until (outcome_of until c.args.functions.now) c.args.place.now c.args.self.now.values c.args.value _ c.in_default-place.not-If)

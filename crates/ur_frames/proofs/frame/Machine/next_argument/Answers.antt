@@ -1,0 +1,21 @@
+use Rattle.std.proofs.Common.{◌≡◌, Some, None, sym, ap, ◌∙◌, length}
+use Rattle.std.specs.Prelude.{slice_get, option_and_then}
+use Rattle.ur_terms.specs.declared.term.Term.{out-Term}
+use Rattle.ur_frames.specs.Rest.{args_of}
+use Rattle.ur_frames.proofs.Descending.{next_argument_leads, all_arguments, all_arguments_safe}
+use Rattle.ur_frames.proofs.frame.Machine.next_argument.Goals as goal
+
+pub apply-requires-clause-safe : goal.apply-requires-clause-safe
+apply-requires-clause-safe g c =
+    let e = ap (λ n. option_and_then (λ xs. slice_get xs n) (args_of (out-Term c.args.place.now))) (sym c.len.ensures) ∙ sym c.in-None.ensures in
+    all_arguments_safe c.args.functions.now c.args.self.now c.args.place.now c.args.done e c.requires.safe
+
+pub returns-in-Some : goal.returns-in-Some
+returns-in-Some g c =
+    let e = ap (λ n. option_and_then (λ xs. slice_get xs n) (args_of (out-Term c.args.place.now))) (sym c.len.ensures) ∙ sym c.in-Some.ensures in
+    next_argument_leads c.args.functions.now c.args.self.now c.descend.new.self c.args.place.now c.args.done c.in-Some.next.now c.descend.result c.requires.stands e c.descend.ensures
+
+pub returns-in-None : goal.returns-in-None
+returns-in-None g c =
+    let e = ap (λ n. option_and_then (λ xs. slice_get xs n) (args_of (out-Term c.args.place.now))) (sym c.len.ensures) ∙ sym c.in-None.ensures in
+    all_arguments c.args.functions.now c.args.self.now c.apply.new.self c.args.place.now c.args.done c.apply.result e c.requires.safe c.apply.ensures

@@ -1,0 +1,13 @@
+use Rattle.std.proofs.Common.{sym}
+use Rattle.ur_frames.specs.Steps.{performing}
+use Rattle.ur_frames.proofs.Leading.{not_stuck, perform_failed, perform_spent}
+use Rattle.ur_frames.proofs.frame.Machine.perform.Goals as goal
+
+pub perform-requires : goal.perform-requires
+perform-requires g c = (c.args.self.now.units, λ e. not_stuck c.args.functions.now c.args.self.now (performing c.args.op.now c.args.args) c.requires e)
+
+pub returns-in-Failed : goal.returns-in-Failed
+returns-in-Failed g c = perform_failed c.args.functions.now c.args.self.now _ c.args.op.now c.args.args c.in-Failed.body c.in-Failed.ensures
+
+pub returns-in-Spent : goal.returns-in-Spent
+returns-in-Spent g c = perform_spent c.args.functions.now c.args.self.now _ c.args.op.now c.args.args c.in-Spent.ensures
