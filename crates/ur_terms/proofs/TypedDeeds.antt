@@ -38,7 +38,7 @@ use Rattle.ur_terms.specs.State.{State, Outcome, Done, Spent, built, note, error
 use Rattle.ur_terms.specs.Values.{as_int, as_bool, as_text, as_fields, as_items, as_nodes, open_nodes, open_fields, open_items, all_nodes, append_option, shown, fields_together, field_at, without_field, fields_of}
 use Rattle.ur_terms.specs.Ops.{given, no_arg, one_arg, two_args, two_ints, divided, markup, with_unit, optional_text, answered, changed, next, drawn, does}
 use Rattle.ur_terms.specs.Run.{joined, outcome_of}
-use Rattle.ur_terms.specs.Types.{Signature, OpType, IsScalar, scalar_int, scalar_string, scalar_bool, xml_page, xml_body, xml_table, xml_row, Stands, stands_head, stands_title, stands_body, stands_table, stands_row, stands_cell, stands_header, stands_form, stands_flow, IsValueFor, IsXml, plain_xml, form_xml, IsFlow, flow_body, flow_form, MakeUp, alike, no_part, more_parts, record_type, form_type, unit_type, answer_type, field_kind, FitsFunction, function_type}
+use Rattle.ur_terms.specs.Types.{Signature, OpType, IsScalar, scalar_int, scalar_string, scalar_bool, xml_page, xml_body, xml_table, xml_row, Stands, stands_head, stands_title, stands_body, stands_table, stands_row, stands_cell, stands_header, stands_form, Holds, holds_bodies, holds_fields, ElementStands, of_its_own, as_its_parts, IsValueFor, IsXml, plain_xml, form_xml, IsFlow, flow_body, flow_form, MakeUp, alike, no_part, more_parts, record_type, form_type, unit_type, answer_type, field_kind, FitsFunction, function_type}
 use Rattle.ur_terms.specs.Sound.{Comes, Typing, KeepsXml, KeepsTables, IsStateOf, IfAfter}
 use Rattle.ur_terms.proofs.Inhabiting.{Of, to-Many, to-Row, to-Present, to-Tagged}
 use Rattle.ur_terms.proofs.TypedValues.{int_of, bool_of, text_of, record_of, many_of, xml_of}
@@ -63,12 +63,11 @@ stands_xml : {t : Tag} {r within : ValueType} → Stands t r within → IsXml r
 stands_xml stands_head = plain_xml ty.Page xml_page
 stands_xml stands_title = plain_xml ty.Page xml_page
 stands_xml stands_body = plain_xml ty.Page xml_page
-stands_xml (stands_table of flow) = flow_xml flow
+stands_xml stands_table = plain_xml ty.Xbody xml_body
 stands_xml stands_row = plain_xml ty.Xtable xml_table
 stands_xml stands_cell = plain_xml ty.Xtr xml_row
 stands_xml stands_header = plain_xml ty.Xtr xml_row
 stands_xml (stands_form fs) = plain_xml ty.Xbody xml_body
-stands_xml (stands_flow t of fs in_flow flow) = flow_xml flow
 
 opens_nodes : (x : Value) (nodes : List Node) → x ≡ v.Markup nodes → as_nodes x ≡ Some nodes
 opens_nodes x nodes e = ap open_nodes (ap out-Value e ∙ v.outs-Markup nodes)
@@ -150,6 +149,18 @@ module _ (own : Value → Type 0) (sig : Signature) where
         let (kids, is, mine) = xml_of own sig.variants part (flow_xml flow) x h.0 in
         let (others, theirs_is, theirs) = (made ts (form_type gs) rest xs h.1).1 in
         (form_xml (fields_together fs gs), (kids ++ others, ap₂ append_option (opens_nodes x kids is) theirs_is, xml.together kids others mine theirs))
+
+    -- the nodes of parts of what holds them
+    held : (ts : List ValueType) (r : ValueType) → Holds ts r → (xs : List Value) → AllZip V xs ts
+        → IsXml r × ((nodes : List Node) × (all_nodes xs ≡ Some nodes) × own (v.Markup nodes))
+    held ts _ (holds_bodies all) xs h = made ts ty.Xbody (alike ts ty.Xbody xml_body all) xs h
+    held ts _ (holds_fields fs some parts) xs h = made ts (form_type fs) parts xs h
+
+    -- the nodes of the parts of an element
+    around : (t : Tag) (ts : List ValueType) (r : ValueType) → ElementStands t ts r → (xs : List Value) → AllZip V xs ts
+        → IsXml r × ((nodes : List Node) × (all_nodes xs ≡ Some nodes) × own (v.Markup nodes))
+    around t ts r (of_its_own within stands parts) xs h = (stands_xml stands, (made ts within parts xs h).1)
+    around t ts r (as_its_parts flow holds) xs h = held ts r holds xs h
 
     module _ (kept : ℕ → Store → Type 0) (sql : Sql) (tables : KeepsTables sig V kept sql) where
       abbrev S : State → Type 0
@@ -340,16 +351,17 @@ module _ (own : Value → Type 0) (sig : Signature) where
       good_does (op.Markup of) ts r xs s (parts, is) h f =
           let m = made ts of parts xs h in
           at_type r of _ is (comes_given (λ x. V x of) S B (all_nodes xs) m.1.0 _ m.1.1 (good_markup of m.1.0 s m.0 m.1.2 f))
-      good_does (op.Text text) ts r xs s (e, ht, flow) h f = good_none r xs _ (subst (AllZip V xs) e h) (good_markup r (n.Text text ∷ []) s (flow_xml flow) (xml.text text ht) f)
-      good_does op.Shown ts r xs s (a, e, sc, flow) h f = good_one r a xs _ (subst (AllZip V xs) e h) (λ x hx.
-          good_shown a r x s _ sc hx (λ t ht. good_markup r (n.Text t ∷ []) s (flow_xml flow) (xml.text t ht) f))
-      good_does (op.Element tag) ts r xs s (within, stands, parts) h f =
-          let m = made ts within parts xs h in
-          comes_given (λ x. V x r) S B (all_nodes xs) m.1.0 _ m.1.1 (good_markup r (n.Element tag m.1.0 ∷ []) s (stands_xml stands) (xml.element tag m.1.0 m.1.2) f)
-      good_does (op.Link route k) ts r xs s (fs, post, at, flow, parts) h f =
-          let m = made (drop k ts) r parts (drop k xs) (drop_of V k xs ts h) in
+      good_does (op.Text text) ts r xs s (e, ht, is) h f = at_type r ty.Xbody _ is
+          (good_none ty.Xbody xs _ (subst (AllZip V xs) e h) (good_markup ty.Xbody (n.Text text ∷ []) s (plain_xml ty.Xbody xml_body) (xml.text text ht) f))
+      good_does op.Shown ts r xs s (a, e, sc, is) h f = at_type r ty.Xbody _ is (good_one ty.Xbody a xs _ (subst (AllZip V xs) e h) (λ x hx.
+          good_shown a ty.Xbody x s _ sc hx (λ t ht. good_markup ty.Xbody (n.Text t ∷ []) s (plain_xml ty.Xbody xml_body) (xml.text t ht) f)))
+      good_does (op.Element tag) ts r xs s stands h f =
+          let m = around tag ts r stands xs h in
+          comes_given (λ x. V x r) S B (all_nodes xs) m.1.0 _ m.1.1 (good_markup r (n.Element tag m.1.0 ∷ []) s m.0 (xml.element tag m.1.0 m.1.2) f)
+      good_does (op.Link route k) ts r xs s (post, at, holds) h f =
+          let m = held (drop k ts) r holds (drop k xs) (drop_of V k xs ts h) in
           comes_given (λ x. V x r) S B (all_nodes (drop k xs)) m.1.0 _ m.1.1
-          (good_markup r (n.Link (record { route = route; args = take k xs }) m.1.0 ∷ []) s (flow_xml flow)
+          (good_markup r (n.Link (record { route = route; args = take k xs }) m.1.0 ∷ []) s m.0
           (xml.link route (take k ts) post (take k xs) m.1.0 at (take_of V k xs ts h) m.1.2) f)
       good_does (op.Input k name text) ts r xs s (at, value, is) h f =
           good_label k r xs ts _ value h (λ t. good_markup r (n.Field k text t ∷ []) s (subst IsXml (sym is) (form_xml ((name, field_kind k) ∷ []))) (xml.field k text t) f)

@@ -171,7 +171,7 @@ module _ (own : Value → Type 0) (sig : Signature) where
       go : (xs : List Value) × (x ≡ v.Many xs) × AllByRecursion (λ y. V y a) xs → (q : Pattern) × Contains ps q × (matched q x ≢ None)
       go ([], e, vs) = (p.Empty, none, is_some (ap (matched_open p.Empty) (opens_many x [] e)))
       go (y ∷ ys, e, vs) = (p.Cons, some, is_some (ap (matched_open p.Cons) (opens_many x (y ∷ ys) e)))
-  typed_covers ps _ x (by_datatype d all) vx =
+  typed_covers ps _ x (by_datatype d some all) vx =
       let (c, y, arg, e, found, held) = data_of own sig.variants d x vx in
       let same : (c == c) ≡ true = grind (arith, nat_tests) in
       (p.Tagged c, all c arg found, is_some (ap (matched_open (p.Tagged c)) (opens_tagged x c y e) ∙ ap (λ b. if_matches b (held_by y)) same))

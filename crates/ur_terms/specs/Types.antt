@@ -108,17 +108,26 @@ IsInFlow tag.Th = ⊥
 IsInFlow tag.Form = ⊥
 IsInFlow _ = Unit {0}
 
--- an element with this tag stands in the second type and holds the third
+-- an element with this tag stands in the second type and holds the third, whatever stands around it
 pub data Stands : Tag → ValueType → ValueType → Type 0 where
   stands_head : Stands tag.Head ty.Page ty.Page
   stands_title : Stands tag.Title ty.Page ty.Xbody
   stands_body : Stands tag.Body ty.Page ty.Xbody
-  stands_table : (of : ValueType) → IsFlow of [] → Stands tag.Table of ty.Xtable
+  stands_table : Stands tag.Table ty.Xbody ty.Xtable
   stands_row : Stands tag.Tr ty.Xtable ty.Xtr
   stands_cell : Stands tag.Td ty.Xtr ty.Xbody
   stands_header : Stands tag.Th ty.Xtr ty.Xbody
   stands_form : (fs : List (Name × ValueType)) → Stands tag.Form ty.Xbody (form_type fs)
-  stands_flow : (t : Tag) (of : ValueType) (fs : List (Name × ValueType)) → IsInFlow t → IsFlow of fs → Stands t of of
+
+-- What holds these parts in a body or form is a body where each of them is one, and else a form with their fields.
+pub data Holds (ts : List ValueType) : ValueType → Type 0 where
+  holds_bodies : All (λ t. t ≡ ty.Xbody) ts → Holds ts ty.Xbody
+  holds_fields : (fs : List (Name × ValueType)) → (All (λ t. t ≡ ty.Xbody) ts → ⊥) → MakeUp ts (form_type fs) → Holds ts (form_type fs)
+
+-- an element with this tag, around these parts, stands in the type
+pub data ElementStands (t : Tag) (ts : List ValueType) (r : ValueType) : Type 0 where
+  of_its_own : (within : ValueType) → Stands t r within → MakeUp ts within → ElementStands t ts r
+  as_its_parts : IsInFlow t → Holds ts r → ElementStands t ts r
 
 abbrev pub field_kind : FieldKind → ValueType
 field_kind kind.Textbox = ty.Str
@@ -179,12 +188,11 @@ OpType sig (op.Tagged c) (a ∷ ts) r =
     (d : ℕ) × (slice_get sig.variants c ≡ Some (d, Some a)) × (ts ≡ []) × (r ≡ ty.Datatype d)
 OpType sig (op.Fail of) ts r = (ts ≡ ty.Xbody ∷ []) × (r ≡ of)
 OpType sig (op.Markup of) ts r = MakeUp ts of × (r ≡ of)
-OpType sig (op.Text text) ts r = (ts ≡ []) × IsUtf8 text × IsFlow r []
-OpType sig op.Shown ts r = (a : ValueType) × (ts ≡ a ∷ []) × IsScalar a × IsFlow r []
-OpType sig (op.Element tag) ts r = (within : ValueType) × Stands tag r within × MakeUp ts within
+OpType sig (op.Text text) ts r = (ts ≡ []) × IsUtf8 text × (r ≡ ty.Xbody)
+OpType sig op.Shown ts r = (a : ValueType) × (ts ≡ a ∷ []) × IsScalar a × (r ≡ ty.Xbody)
+OpType sig (op.Element tag) ts r = ElementStands tag ts r
 OpType sig (op.Link route k) ts r =
-    (fs : List (Name × ValueType)) × (post : Bool) × (slice_get sig.routes route ≡ Some (record { params = take k ts; get = true; post = post })) × IsFlow r fs
-    × MakeUp (drop k ts) r
+    (post : Bool) × (slice_get sig.routes route ≡ Some (record { params = take k ts; get = true; post = post })) × Holds (drop k ts) r
 OpType sig (op.Input k name text) ts r =
     (slice_get sig.names name.0 ≡ Some text) × IsValueFor k ts × (r ≡ form_type ((name, field_kind k) ∷ []))
 OpType sig (op.Submit route k unit) ts r =
@@ -215,13 +223,13 @@ Binds sig p.Empty a bound = (b : ValueType) × (a ≡ ty.Many b) × (bound ≡ [
 Binds sig p.Cons a bound = (b : ValueType) × (a ≡ ty.Many b) × (bound ≡ b ∷ a ∷ [])
 Binds sig (p.Tagged c) a bound = (d : ℕ) × (arg : Option ValueType) × (slice_get sig.variants c ≡ Some (d, arg)) × (a ≡ ty.Datatype d) × (bound ≡ args_of arg)
 
--- the patterns leave out no value of the type
+-- there are patterns, and they leave out no value of the type
 pub data Cover (sig : Signature) (ps : List Pattern) : ValueType → Type 0 where
   by_any : (a : ValueType) → Contains ps p.Any → Cover sig ps a
   by_bool : Contains ps (p.Bool true) → Contains ps (p.Bool false) → Cover sig ps ty.Bool
   by_option : (a : ValueType) → Contains ps p.Absent → Contains ps p.Present → Cover sig ps (ty.Opt a)
   by_list : (a : ValueType) → Contains ps p.Empty → Contains ps p.Cons → Cover sig ps (ty.Many a)
-  by_datatype : (d : ℕ) → ((c : ℕ) (arg : Option ValueType) → slice_get sig.variants c ≡ Some (d, arg) → Contains ps (p.Tagged c)) → Cover sig ps (ty.Datatype d)
+  by_datatype : (d : ℕ) → ps ≢ [] → ((c : ℕ) (arg : Option ValueType) → slice_get sig.variants c ≡ Some (d, arg) → Contains ps (p.Tagged c)) → Cover sig ps (ty.Datatype d)
 
 abbrev pub patterns_of : {m : _} → Row_of-Branch m → List Pattern
 patterns_of end_of-Branch = []
