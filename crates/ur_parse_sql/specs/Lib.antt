@@ -1,0 +1,4 @@
+pub mod Levels
+pub mod Signs
+pub mod Columns
+pub mod Leaves
