@@ -1,0 +1,6 @@
+pub mod Opened
+pub mod Arguments
+pub mod Doing
+pub mod Fields
+pub mod Nodes
+pub mod Examples
