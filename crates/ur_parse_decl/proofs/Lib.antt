@@ -1,0 +1,5 @@
+pub mod Ending
+mod Listed
+mod Constraints
+mod Tables
+mod Variants

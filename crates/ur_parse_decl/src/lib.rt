@@ -1,0 +1,12 @@
+//! Declarations of datatypes and tables are read.
+#![tactic(auto)]
+
+mod columns;
+mod datatype;
+mod keys;
+mod table;
+#[cfg(test)]
+mod tests;
+
+pub use datatype::read_datatype;
+pub use table::read_table;
