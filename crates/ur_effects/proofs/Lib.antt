@@ -1,0 +1,4 @@
+pub mod Chains
+pub mod Equations
+pub mod Routes
+pub mod Searching

@@ -1,0 +1,4 @@
+pub mod Acts
+pub mod Refused
+pub mod Search
+pub mod Writes

@@ -1,0 +1,12 @@
+//! Routes with GET do not write.
+#![tactic(auto)]
+
+mod act;
+mod chain;
+mod deeds;
+mod refusing;
+mod search;
+#[cfg(test)]
+mod tests;
+
+pub use refusing::effects;
