@@ -1,0 +1,11 @@
+pub mod Naming
+pub mod Beginning
+pub mod Bindings
+pub mod Dotted
+pub mod Members
+pub mod Heads
+pub mod Ending
+pub mod Begun
+pub mod Simples
+pub mod Levels
+pub mod Joined

@@ -1,0 +1,9 @@
+pub mod Lines
+pub mod Words
+pub mod Begins
+pub mod Arguments
+pub mod Bindings
+pub mod Lists
+pub mod Behind
+pub mod Forms
+pub mod Heads

@@ -1,0 +1,37 @@
+//! Expressions made of their parts, and readers of what is no expression in them.
+#![tactic(auto)]
+
+mod argument;
+mod begin;
+mod bound;
+mod capital;
+mod dots;
+mod embedded;
+mod ended;
+mod form;
+mod gone;
+mod list;
+mod lists;
+mod params;
+mod simple;
+#[cfg(test)]
+mod tests;
+mod word;
+
+pub use argument::{Given, apply, as_type, as_value};
+pub use begin::{sees_argument, sees_base, sees_post};
+pub use bound::{binding, sees_binding};
+pub use capital::{read_capital, read_nil};
+pub use dots::read_dots;
+pub use embedded::{get_cookie_of, nextval_of, set_cookie_of, with_code, xml_of};
+pub use ended::{
+    Line, bind_of, case_of, closed, conditional_of, fold_of, inner, lambda_of, let_of, record_of,
+    sequence_of,
+};
+pub use form::{Double, Single, unit_of, with_one, with_two};
+pub use gone::read_gone;
+pub use list::{Piece, listed};
+pub use lists::{with_branch, with_field, with_let_val};
+pub use params::read_lambda_head;
+pub use simple::read_simple;
+pub use word::{FormWord, expect_word_of, form_at, sees_word_of};
