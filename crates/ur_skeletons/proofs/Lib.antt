@@ -1,5 +1,6 @@
 pub mod Completed
 pub mod Filling
+pub mod Fronts
 pub mod Laws
 pub mod Pairs
 pub mod SqlTwins

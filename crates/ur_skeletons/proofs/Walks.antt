@@ -48,10 +48,10 @@ role_by false false false false false true _ = shuts curly
 role_by false false false false false false true = nothing
 role_by false false false false false false false = unknown
 
-abbrev role : TokenKind → Role
+abbrev pub role : TokenKind → Role
 role k = role_by (is_left round k) (is_left square k) (is_left curly k) (is_right round k) (is_right square k) (is_right curly k) (is_one plain_kinds k)
 
-abbrev Says : Role → TokenKind → Type 0
+abbrev pub Says : Role → TokenKind → Type 0
 Says (opens b) k = is_left b k ≡ true
 Says (shuts b) k = is_right b k ≡ true
 Says nothing k = is_one plain_kinds k ≡ true
@@ -68,7 +68,7 @@ says_by k false false false false false true _ a b c d e f g = f
 says_by k false false false false false false true a b c d e f g = g
 says_by k false false false false false false false a b c d e f g = tt
 
-role_says : (k : TokenKind) → Says (role k) k
+pub role_says : (k : TokenKind) → Says (role k) k
 role_says k = says_by k _ _ _ _ _ _ _ refl refl refl refl refl refl refl
 
 -- ---- slots
@@ -95,14 +95,14 @@ abbrev shut : Bracket → (List Bracket → Bool) → List Bracket → Bool
 shut b f [] = false
 shut b f (d ∷ bs) = same_bracket b d && f bs
 
-abbrev turn : Role → (List Bracket → Bool) → List Bracket → Bool
+abbrev pub turn : Role → (List Bracket → Bool) → List Bracket → Bool
 turn (opens b) f bs = f (b ∷ bs)
 turn (shuts b) f bs = shut b f bs
 turn nothing f bs = f bs
 turn unknown f bs = false
 
 -- the bracket that a part closes behind itself, if it does
-abbrev closer : Part → Option Bracket
+abbrev pub closer : Part → Option Bracket
 closer (of_con c.row) = Some square
 closer (of_con c.row_tail) = Some square
 closer (of_con c.fields) = Some curly
@@ -117,12 +117,12 @@ closer (of_sql q s.columns_end) = Some round
 closer (of_sql q s.values_end) = Some round
 closer _ = None
 
-abbrev listed : Option Bracket → List Bracket
+abbrev pub listed : Option Bracket → List Bracket
 listed None = []
 listed (Some b) = b ∷ []
 
 -- the parts that stand in an expression
-abbrev inside : Part → Bool
+abbrev pub inside : Part → Bool
 inside (of_con p) = true
 inside (of_exp p) = true
 inside (of_sql expressions p) = true
@@ -130,12 +130,12 @@ inside (of_xml expressions p) = true
 inside (of_quote expressions) = true
 inside _ = false
 
-abbrev pass : Option Bracket → (List Bracket → Bool) → List Bracket → Bool
+abbrev pub pass : Option Bracket → (List Bracket → Bool) → List Bracket → Bool
 pass None f bs = f bs
 pass (Some b) f bs = shut b f bs
 
 -- just these brackets are closed by the slots
-abbrev walk : List (Slot Part) → List Bracket → Bool
+abbrev pub walk : List (Slot Part) → List Bracket → Bool
 walk [] [] = true
 walk [] (b ∷ bs) = false
 walk (mark k ∷ slots) bs = turn (role k) (walk slots) bs
@@ -145,13 +145,13 @@ walk (number ∷ slots) bs = walk slots bs
 walk (among ks ∷ slots) bs = false
 walk (one p ∷ slots) bs = inside p && pass (closer p) (walk slots) bs
 
-abbrev walks : {T : Type 0} → List (Rule Tree T) → List Bracket → Bool
+abbrev pub walks : {T : Type 0} → List (Rule Tree T) → List Bracket → Bool
 walks [] bs = true
 walks (r ∷ rs) bs = walk r.slots bs && walks rs bs
 
 -- ---- each part closes its bracket
 
-abbrev Checked : Part → Type 0
+abbrev pub Checked : Part → Type 0
 Checked p = walks (rules p) (listed (closer p)) ≡ true
 
 con_checked : (p : c.ConPart) → Checked (of_con p)
@@ -324,7 +324,7 @@ checked (of_code p) h = false_true h
 -- ---- the tokens of a part
 
 -- what closes these closes those, where the one list begins with the other
-shut_closing : (n : ℕ) (b : Bracket) (f : List Bracket → Bool) (P : List Bracket → Type 0) (bs : List Bracket) → shut b f bs ≡ true → ((ds : List Bracket) → f ds ≡ true → P (b ∷ ds)) → P bs
+pub shut_closing : (n : ℕ) (b : Bracket) (f : List Bracket → Bool) (P : List Bracket → Type 0) (bs : List Bracket) → shut b f bs ≡ true → ((ds : List Bracket) → f ds ≡ true → P (b ∷ ds)) → P bs
 shut_closing n b f P [] h g = false_true h
 shut_closing n b f P (d ∷ bs) h g = subst (λ z. P (z ∷ bs)) (same_is b d (and_left (same_bracket b d) (f bs) h)) (g bs (and_right (same_bracket b d) (f bs) h))
 
@@ -339,7 +339,7 @@ pass_closing n None a ts f d g bs h = behind n [] bs a ts d (g bs h)
 pass_closing n (Some b) a ts f d g bs h = shut_closing n b f (λ ds. Closing n ds (a ++ ts)) bs h (λ ds e. behind n (b ∷ []) ds a ts d (g ds e))
 
 module _ (n : ℕ) where
-  abbrev ClosesBelow : ℕ → Type 0
+  abbrev pub ClosesBelow : ℕ → Type 0
   ClosesBelow k = (p : Part) → inside p ≡ true → (m : ℕ) (x : Tree p) (ts : List Lexeme) (d : Spells language m (part p x ∷ []) ts) → height language d < k → Closing n (listed (closer p)) ts
 
   slots_closing : (k : ℕ) → ClosesBelow k → (m : ℕ) (slots : List (Slot Part)) (v : Values Tree slots) (ts : List Lexeme) (d : Spells language m (filled Tree slots v) ts) → height language d < k →
@@ -366,7 +366,7 @@ module _ (n : ℕ) where
       slots_closing k ih m r.slots v ts (subst (λ z. Spells language m z ts) f d) (omega (arith, h, s)) bs (and_left (walk r.slots bs) _ w)
   rules_closing k ih m p x q ts (r ∷ rs) bs w (inr c) d h = rules_closing k ih m p x q ts rs bs (and_right (walk r.slots bs) _ w) c d h
 
-  closes_below : (k : ℕ) → ClosesBelow k
+  pub closes_below : (k : ℕ) → ClosesBelow k
   closes_below zero p i m x ts d h = absurd (omega (arith, h))
   closes_below (suc k) p i m x ts d h = let o = produced-out language d in let l = o.7 in
       subst (Closing n (listed (closer p))) (sym o.3) (rules_closing k (closes_below k) o.0 p x o.1 o.2 (rules p) (listed (closer p)) (checked p i) o.4 o.6 (omega (arith, h, l)))

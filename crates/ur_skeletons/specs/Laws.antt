@@ -1,13 +1,15 @@
 -- What skeletons and the trees with expressions have to do with each other.
-use Rattle.std.specs.Prelude.{◌⊎◌, ℕ, true, ◌≤◌, List, [], ◌∷◌}
+use Rattle.std.specs.Prelude.{◌≡◌, ◌⊎◌, ℕ, true, ◌≤◌, List, [], ◌∷◌, ◌++◌}
 use Rattle.std.specs.List.{Contains}
 use Rattle.ur_lex.specs.declared.token.Lexeme.{Lexeme}
 use Rattle.ur_syntax.specs.declared.exp.Exp.{Exp}
 use Rattle.ur_syntax.specs.declared.xml.Xml.{Xml}
 use Rattle.ur_syntax.specs.declared.sql.SqlQuery.{SqlQuery}
 use Rattle.ur_syntax.specs.declared.sql.SqlChange.{SqlChange}
-use Rattle.ur_grammar.specs.Rules.{Spells, part, one}
-use Rattle.ur_parse_rules.specs.Quoted.{Quoting, expressions, Raw, Quoted, Code}
+use Rattle.ur_grammar.specs.Rules.{Spells, Open, Stops, part, one}
+use Rattle.ur_parse_rules.specs.Classes.{member}
+use Rattle.ur_parse_rules.specs.Ends.{code_starts}
+use Rattle.ur_parse_rules.specs.Quoted.{Quoting, expressions, raw, Raw, Quoted, Code}
 use Rattle.ur_parse_rules.specs.SqlParts as s
 use Rattle.ur_parse_rules.specs.XmlParts as x
 use Rattle.ur_parse_rules.specs.Parts.{Part, of_sql, of_xml, of_quote}
@@ -48,3 +50,8 @@ abbrev pub NeedsCode : {A : Type 0} → Spelled (Quoted Raw A) → Spelled (Quot
 NeedsCode {A = A} skeleton spelled =
     (m n : ℕ) (a : Quoted Raw A) (b : Quoted Exp A) (tokens : List Lexeme) (c : Raw) → skeleton m a tokens → (Contains a.exps c ⊎ Contains a.attributes c) →
     ((l : ℕ) (e : Exp) → Spells language l (part (of_quote expressions) e ∷ []) c.tokens → ⊥) → spelled n b tokens → ⊥
+
+-- a front of code does not go past the bracket that closes the code
+abbrev pub StaysWithin : Type 0
+StaysWithin = (m k : ℕ) (c : Raw) (code taken behind rest : List Lexeme) → Spells language m (part (of_quote raw) c ∷ []) code → Stops (member code_starts) behind →
+    Open language (one (of_quote expressions) ∷ []) taken k → code ++ behind ≡ taken ++ rest → (left : List Lexeme) × (code ≡ taken ++ left)

@@ -7,7 +7,7 @@ ghost use Rattle.ur_parse_rules.specs.SqlParts as s;
 ghost use Rattle.ur_parse_rules.specs.XmlParts as x;
 ghost use Rattle.ur_parse_rules.specs.Parts.{Part, of_sql, of_xml};
 ghost use Rattle.ur_skeletons.specs.Filled.{OpensBeyond, OpensBehind};
-ghost use Rattle.ur_skeletons.specs.Laws.{HasSkeleton, IsFilled, IsFilledOrOpen, NeedsCode, literal, query, change};
+ghost use Rattle.ur_skeletons.specs.Laws.{StaysWithin, HasSkeleton, IsFilled, IsFilledOrOpen, NeedsCode, literal, query, change};
 
 /// Where more than `n` are open behind a front of the tokens, just one more than `n` are, behind a front of that.
 pub fn nesting_is_reached()
@@ -36,4 +36,9 @@ pub fn changes_are_filled()
     ensures filled { IsFilled (change raw) (change expressions) }
     ensures known { IsFilledOrOpen (of_sql expressions s.change) (change raw) (change expressions) }
     ensures missing { NeedsCode (change raw) (change expressions) }
+{}
+
+/// What is open behind a front of code is open within the code: no front goes past the bracket that closes it.
+pub fn fronts_stay_within()
+    ensures { StaysWithin }
 {}

@@ -3,4 +3,7 @@
 
 mod law;
 
-pub use law::{changes_are_filled, literals_are_filled, nesting_is_reached, queries_are_filled};
+pub use law::{
+    changes_are_filled, fronts_stay_within, literals_are_filled, nesting_is_reached,
+    queries_are_filled,
+};

@@ -1,0 +1,9 @@
+pub mod Growing
+pub mod Naming
+pub mod Piecing
+pub mod Selecting
+pub mod Joining
+pub mod Filtering
+pub mod Ordering
+pub mod Limiting
+pub mod Querying
