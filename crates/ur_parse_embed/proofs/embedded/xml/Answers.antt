@@ -1,0 +1,13 @@
+use Rattle.ur_grammar.specs.Rules.{Read}
+use Rattle.ur_grammar.proofs.Once.{read_once}
+use Rattle.ur_parse_rules.specs.Quoted.{raw}
+use Rattle.ur_parse_rules.specs.XmlParts.{literal}
+use Rattle.ur_parse_rules.specs.Parts.{of_xml}
+use Rattle.ur_parse_rules.specs.Language.{language}
+use Rattle.ur_parse_rules.proofs.Choice.{choice}
+use Rattle.ur_parse_rules.proofs.AllDecided.{decided}
+use Rattle.ur_parse_embed.proofs.Embedding.{embeds}
+use Rattle.ur_parse_embed.proofs.embedded.xml.Goals as goal
+
+pub returns-clause-found : goal.returns-clause-found
+returns-clause-found c = let e = c.in_ok-made.ensures.found in rw e (embeds (λ n. Read language n (of_xml raw literal)) (λ n m ts rest other x y a b. read_once language choice decided a b) c.in_ok-tree.ensures.moves c.new-quotes.ensures.exps c.new-quotes.ensures.attributes c.in_ok-tree.ensures.found)
