@@ -14,8 +14,6 @@ mod list;
 mod lists;
 mod params;
 mod simple;
-#[cfg(test)]
-mod tests;
 mod word;
 
 pub use argument::{Given, apply, as_type, as_value};

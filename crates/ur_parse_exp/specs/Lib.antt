@@ -1,0 +1,5 @@
+pub mod Branches
+pub mod Lists
+pub mod Codes
+pub mod Markups
+pub mod Tables

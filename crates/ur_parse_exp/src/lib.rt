@@ -1,0 +1,13 @@
+//! Expressions are read.
+#![tactic(auto)]
+
+mod atom;
+mod code;
+mod fields;
+mod forms;
+mod level;
+mod line;
+mod markup;
+mod tables;
+
+pub use line::exp as read_exp;
