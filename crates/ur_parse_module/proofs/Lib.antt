@@ -1,0 +1,6 @@
+mod Params
+mod Definitions
+mod Functions
+mod Values
+mod Declaring
+mod Modules
