@@ -7,7 +7,7 @@ use Rattle.ur_base.proofs.Texts.{list_any-texts}
 use Rattle.ur_page.specs.Words.{is_one_of, are_distinct}
 
 -- the elements from a place on are that at the place and those behind it
-split : {X : Type 0} (xs : List X) (i : ℕ) (x : X) → i < length xs → x ≡ get_or xs i x → drop i xs ≡ x ∷ drop (i + 1) xs
+pub split : {X : Type 0} (xs : List X) (i : ℕ) (x : X) → i < length xs → x ≡ get_or xs i x → drop i xs ≡ x ∷ drop (i + 1) xs
 split xs i x h e = rw add-one (drop-cons xs i x h ∙ ap (λ z. z ∷ drop (suc i) xs) (sym e))
 
 -- a name from a place on stands once as those behind it do, unless it is among them

@@ -1,10 +1,4 @@
-pub mod FormBytes
-pub mod FormFunctions
 pub mod FormLists
-pub mod FormPages
-pub mod FormParams
-pub mod FormParts
-pub mod FormPassing
-pub mod FormProjects
-pub mod FormRead
-pub mod FormTags
+pub mod Values
+pub mod Equations
+pub mod Plain

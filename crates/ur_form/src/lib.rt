@@ -1,20 +1,10 @@
-//! The reader of the first page's form: which project and which module the bytes of a file spell.
+//! The first page's form: which trees of modules are of it, and the pages that they are.
 #![tactic(auto)]
 
-mod bytes;
 mod function;
 mod list;
-mod miss;
-mod page;
-mod params;
-mod part;
-mod project;
-mod tag;
-#[cfg(test)]
-mod tests;
-mod token;
-mod whole;
+mod markup;
+mod pages;
 mod word;
 
-pub use project::{one_project, parse_project};
-pub use whole::{one_module, parse_module};
+pub use pages::{page_module, pages_are_plain};

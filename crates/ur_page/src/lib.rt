@@ -1,4 +1,4 @@
-//! The first page's form as a tree: a module of page functions, each with int parameters.
+//! The pages of the first form: a module of page functions, each with int parameters.
 #![tactic(auto)]
 
 mod module;

@@ -63,17 +63,17 @@ all_more p (y ∷ ys) x f h = let t = and_true (p y) (list_all p ys) f in both_t
 
 -- of two cuts of a list one is before the other, or they are the same
 pub data Cuts {A : Type 0} (xs ys : List A) (a b : A) : Type 0 where
-  same : a ≡ b → Cuts xs ys a b
+  same : xs ≡ ys → a ≡ b → Cuts xs ys a b
   earlier : (more : List A) → ys ≡ xs ++ a ∷ more → Cuts xs ys a b
   later : (more : List A) → xs ≡ ys ++ b ∷ more → Cuts xs ys a b
 
 more_cut : {A : Type 0} (x y : A) {xs ys : List A} {a b : A} → x ≡ y → Cuts xs ys a b → Cuts (x ∷ xs) (y ∷ ys) a b
-more_cut x y e (Cuts.same h) = Cuts.same h
+more_cut x y e (Cuts.same g h) = Cuts.same (cc) h
 more_cut x y e (Cuts.earlier more h) = Cuts.earlier more cc
 more_cut x y e (Cuts.later more h) = Cuts.later more cc
 
 pub two_cuts : {A : Type 0} (xs ys : List A) {a b : A} (us vs : List A) → xs ++ a ∷ us ≡ ys ++ b ∷ vs → Cuts xs ys a b
-two_cuts [] [] us vs e = Cuts.same cc
+two_cuts [] [] us vs e = Cuts.same refl (cc)
 two_cuts [] (y ∷ ys) us vs e = Cuts.earlier ys cc
 two_cuts (x ∷ xs) [] us vs e = Cuts.later xs cc
 two_cuts (x ∷ xs) (y ∷ ys) {a = a} {b = b} us vs e =

@@ -1,6 +1,7 @@
 -- A file is a project in one way at most, has one line at most that is the first wrong one, and not both.
-use Rattle.std.proofs.Common.{◌≡◌, ◌≢◌, ◌∙◌, ◌⊎◌, inl, inr, ℕ, Bool, true, false, not, List, [], ◌∷◌, ◌++◌, refl, ap, sym, subst, Contains, get_or}
+use Rattle.std.proofs.Common.{◌≡◌, ◌≢◌, ◌∙◌, ◌⊎◌, inl, inr, ℕ, ◌+◌, Bool, true, false, not, List, [], ◌∷◌, ◌++◌, length, refl, ap, sym, subst, arith, Contains, get_or}
 use Rattle.std.specs.List.{list_all}
+use Rattle.std.proofs.lemmas.List.{length-append}
 use Rattle.std.proofs.lemmas.List.Elements.{Contains-append_right}
 use Rattle.std.proofs.lemmas.List.Sums.{AllPass-from_list_all}
 use Rattle.ur_page.specs.Words.{is_module_name, is_one_of}
@@ -39,34 +40,37 @@ one_project_of bytes a b p q = one_to_name (project_lines bytes) a b p.named q.n
 
 -- ---- the first wrong line
 
-record NoDirective (lines : List (List ℕ)) (line : List ℕ) : Type 0 where
+record NoDirective (lines : List (List ℕ)) (number : ℕ) (line : List ℕ) : Type 0 where
   before : List (List ℕ)
   behind : List (List ℕ)
   is : lines ≡ before ++ line ∷ behind
+  counts : number ≡ length before
   are : list_all is_directive before ≡ true
   some : line ≢ []
   fails : is_directive line ≡ false
   ends : Contains behind []
 
-record NoName (lines : List (List ℕ)) (line : List ℕ) : Type 0 where
+record NoName (lines : List (List ℕ)) (number : ℕ) (line : List ℕ) : Type 0 where
   before : List (List ℕ)
   behind : List (List ℕ)
   named : AreToName lines (before ++ line ∷ behind)
+  counts : number + length (line ∷ behind) ≡ length lines
   fit : AreModules before
   wrong : (is_module_name line ≡ false) ⊎ (is_one_of before line ≡ true)
 
-record NoModules (lines : List (List ℕ)) (line : List ℕ) : Type 0 where
+record NoModules (lines : List (List ℕ)) (number : ℕ) (line : List ℕ) : Type 0 where
+  counts : number ≡ 0
   named : AreToName lines []
   is : line ≡ []
 
-bad_cases : (lines : List (List ℕ)) (line : List ℕ) → IsBadLine lines line → NoDirective lines line ⊎ (NoName lines line ⊎ NoModules lines line)
-bad_cases _ line (IsBadLine.no_directive before behind _ a s f c) = inl (record { before = before; behind = behind; is = refl; are = a; some = s; fails = f; ends = c })
-bad_cases lines line (IsBadLine.no_name _ before behind _ n a w) = inr (inl (record { before = before; behind = behind; named = n; fit = a; wrong = w }))
-bad_cases lines _ (IsBadLine.no_modules _ n) = inr (inr (record { named = n; is = refl }))
+bad_cases : (lines : List (List ℕ)) (number : ℕ) (line : List ℕ) → IsBadLine lines number line → NoDirective lines number line ⊎ (NoName lines number line ⊎ NoModules lines number line)
+bad_cases _ number line (IsBadLine.no_directive before behind _ _ n a s f c) = inl (record { before = before; behind = behind; is = refl; counts = n; are = a; some = s; fails = f; ends = c })
+bad_cases lines number line (IsBadLine.no_name _ before behind _ _ t n a w) = inr (inl (record { before = before; behind = behind; named = t; counts = n; fit = a; wrong = w }))
+bad_cases lines number _ (IsBadLine.no_modules _ _ n t) = inr (inr (record { counts = n; named = t; is = refl }))
 
 -- behind a line that is no directive no line is to name a module
-no_names : (lines names : List (List ℕ)) (line : List ℕ) → NoDirective lines line → AreToName lines names → ⊥
-no_names lines names line d n = by (to_name lines names n) where
+no_names : (lines names : List (List ℕ)) (number : ℕ) (line : List ℕ) → NoDirective lines number line → AreToName lines names → ⊥
+no_names lines names number line d n = by (to_name lines names n) where
   by : Alone lines names ⊎ Headed lines names → ⊥
   by (inr h) = d.some (first_failing is_directive d.before h.directives d.are h.are d.fails refl (sym d.is ∙ h.is)).at'
   by (inl a) = let c : Contains lines [] = subst (λ l. Contains l []) (sym d.is) (Contains-append_right d.before (line ∷ d.behind) [] (Contains-append_right (line ∷ []) d.behind [] d.ends)) in
@@ -82,29 +86,42 @@ some_names : (before behind : List (List ℕ)) (line : List ℕ) → before ++ l
 some_names [] behind line e = cc
 some_names (x ∷ xs) behind line e = cc
 
-two_wrong : (lines : List (List ℕ)) (a b : List ℕ) → NoName lines a → NoName lines b → a ≡ b
-two_wrong lines a b p q = by (two_cuts p.before q.before p.behind q.behind (one_to_name lines (p.before ++ a ∷ p.behind) (q.before ++ b ∷ q.behind) p.named q.named)) where
-  by : Cuts p.before q.before a b → a ≡ b
-  by (Cuts.same e) = e
+-- two lines in one list are of one number, where as many stand before both
+one_number : (lines xs ys us vs : List (List ℕ)) (a b : List ℕ) (m n : ℕ) → xs ++ a ∷ us ≡ ys ++ b ∷ vs → xs ≡ ys → m + length (a ∷ us) ≡ length lines → n + length (b ∷ vs) ≡ length lines → m ≡ n
+one_number lines xs ys us vs a b m n e s p q =
+    let whole : length xs + length (a ∷ us) ≡ length ys + length (b ∷ vs) = sym (length-append xs (a ∷ us)) ∙ ap length e ∙ length-append ys (b ∷ vs) in
+    let front : length xs ≡ length ys = ap length s in omega arith
+
+two_wrong : (lines : List (List ℕ)) (m n : ℕ) (a b : List ℕ) → NoName lines m a → NoName lines n b → (m ≡ n) × (a ≡ b)
+two_wrong lines m n a b p q = by (two_cuts p.before q.before p.behind q.behind whole) where
+  whole : p.before ++ a ∷ p.behind ≡ q.before ++ b ∷ q.behind
+  whole = one_to_name lines (p.before ++ a ∷ p.behind) (q.before ++ b ∷ q.behind) p.named q.named
+
+  by : Cuts p.before q.before a b → (m ≡ n) × (a ≡ b)
+  by (Cuts.same s e) = (one_number lines p.before q.before p.behind q.behind a b m n whole s p.counts q.counts, e)
   by (Cuts.earlier more h) = absurd (none_wrong p.before more a (subst AreModules h q.fit) p.wrong)
   by (Cuts.later more h) = absurd (none_wrong q.before more b (subst AreModules h p.fit) q.wrong)
 
-pub one_wrong : (lines : List (List ℕ)) (a b : List ℕ) → IsBadLine lines a → IsBadLine lines b → a ≡ b
-one_wrong lines a b p q = by (bad_cases lines a p) (bad_cases lines b q) where
-  by : NoDirective lines a ⊎ (NoName lines a ⊎ NoModules lines a) → NoDirective lines b ⊎ (NoName lines b ⊎ NoModules lines b) → a ≡ b
-  by (inl x) (inl y) = (first_failing is_directive x.before y.before x.are y.are x.fails y.fails (sym x.is ∙ y.is)).at'
-  by (inl x) (inr (inl y)) = absurd (no_names lines (y.before ++ b ∷ y.behind) a x y.named)
-  by (inl x) (inr (inr y)) = absurd (no_names lines [] a x y.named)
-  by (inr (inl x)) (inl y) = absurd (no_names lines (x.before ++ a ∷ x.behind) b y x.named)
-  by (inr (inl x)) (inr (inl y)) = two_wrong lines a b x y
-  by (inr (inl x)) (inr (inr y)) = absurd (some_names x.before x.behind a (one_to_name lines (x.before ++ a ∷ x.behind) [] x.named y.named))
-  by (inr (inr x)) (inl y) = absurd (no_names lines [] b y x.named)
-  by (inr (inr x)) (inr (inl y)) = absurd (some_names y.before y.behind b (one_to_name lines (y.before ++ b ∷ y.behind) [] y.named x.named))
-  by (inr (inr x)) (inr (inr y)) = x.is ∙ sym y.is
+two_first : (lines : List (List ℕ)) (m n : ℕ) (a b : List ℕ) → NoDirective lines m a → NoDirective lines n b → (m ≡ n) × (a ≡ b)
+two_first lines m n a b x y = let s = first_failing is_directive x.before y.before x.are y.are x.fails y.fails (sym x.is ∙ y.is) in
+    (x.counts ∙ ap length s.before ∙ sym y.counts, s.at')
 
-pub no_project : (bytes line : List ℕ) (modules : List (List ℕ)) → IsBadLine (project_lines bytes) line → IsProject bytes modules → ⊥
-no_project bytes line modules bad p = by (bad_cases (project_lines bytes) line bad) where
-  by : NoDirective (project_lines bytes) line ⊎ (NoName (project_lines bytes) line ⊎ NoModules (project_lines bytes) line) → ⊥
-  by (inl x) = no_names (project_lines bytes) modules line x p.named
+pub one_wrong : (lines : List (List ℕ)) (m n : ℕ) (a b : List ℕ) → IsBadLine lines m a → IsBadLine lines n b → (m ≡ n) × (a ≡ b)
+one_wrong lines m n a b p q = by (bad_cases lines m a p) (bad_cases lines n b q) where
+  by : NoDirective lines m a ⊎ (NoName lines m a ⊎ NoModules lines m a) → NoDirective lines n b ⊎ (NoName lines n b ⊎ NoModules lines n b) → (m ≡ n) × (a ≡ b)
+  by (inl x) (inl y) = two_first lines m n a b x y
+  by (inl x) (inr (inl y)) = absurd (no_names lines (y.before ++ b ∷ y.behind) m a x y.named)
+  by (inl x) (inr (inr y)) = absurd (no_names lines [] m a x y.named)
+  by (inr (inl x)) (inl y) = absurd (no_names lines (x.before ++ a ∷ x.behind) n b y x.named)
+  by (inr (inl x)) (inr (inl y)) = two_wrong lines m n a b x y
+  by (inr (inl x)) (inr (inr y)) = absurd (some_names x.before x.behind a (one_to_name lines (x.before ++ a ∷ x.behind) [] x.named y.named))
+  by (inr (inr x)) (inl y) = absurd (no_names lines [] n b y x.named)
+  by (inr (inr x)) (inr (inl y)) = absurd (some_names y.before y.behind b (one_to_name lines (y.before ++ b ∷ y.behind) [] y.named x.named))
+  by (inr (inr x)) (inr (inr y)) = (x.counts ∙ sym y.counts, x.is ∙ sym y.is)
+
+pub no_project : (bytes : List ℕ) (number : ℕ) (line : List ℕ) (modules : List (List ℕ)) → IsBadLine (project_lines bytes) number line → IsProject bytes modules → ⊥
+no_project bytes number line modules bad p = by (bad_cases (project_lines bytes) number line bad) where
+  by : NoDirective (project_lines bytes) number line ⊎ (NoName (project_lines bytes) number line ⊎ NoModules (project_lines bytes) number line) → ⊥
+  by (inl x) = no_names (project_lines bytes) modules number line x p.named
   by (inr (inl x)) = none_wrong x.before x.behind line (subst AreModules (one_to_name (project_lines bytes) modules (x.before ++ line ∷ x.behind) p.named x.named) p.fit) x.wrong
   by (inr (inr x)) = p.some (one_to_name (project_lines bytes) modules [] p.named x.named)

@@ -1,5 +1,6 @@
 pub mod Facing
 pub mod Cuts
+pub mod Counted
 pub mod Laws
 pub mod Named
 pub mod Listed

@@ -83,21 +83,22 @@ directive_more lines i line h e f p = list_all_more is_directive (texts lines) i
     ∙ rw (p, ap is_directive (text_at lines i line h e)) f
 
 pub not_directive : (lines : List Line) (empty i : ℕ) (line : Line) → empty ≡ position_or_len is_empty (texts lines) → empty < length lines → i < empty → line ≡ get_or lines i line
-    → is_directive line.text ≡ false → list_all is_directive (take i (texts lines)) ≡ true → IsBadLine (texts lines) line.text
+    → is_directive line.text ≡ false → list_all is_directive (take i (texts lines)) ≡ true → IsBadLine (texts lines) i line.text
 not_directive lines empty i line e h j l f p =
     let xs : List (List ℕ) = texts lines in let size = length_texts lines in
     let here : get_or xs i [] ≡ line.text = text_at lines i line (omega arith) l in
     let some : line.text ≢ [] = λ z. apart (ap is_empty (sym z) ∙ ap is_empty (sym here) ∙ fails_before_first is_empty xs i [] (omega arith)) in
     let there : Contains (drop (i + 1) xs) [] = (empty - (i + 1), omega (arith, size, length-drop (i + 1) xs), get_or-drop (i + 1) xs (empty - (i + 1)) [] ∙ (let k : i + 1 + (empty - (i + 1)) ≡ empty = omega arith in rw k (empty_at xs empty e (omega (arith, size))))) in
-    subst (λ z. IsBadLine z line.text) (sym (cut_here xs i line.text (omega (arith, size)) here))
-    (IsBadLine.no_directive (take i xs) (drop (i + 1) xs) line.text p some f there)
+    subst (λ z. IsBadLine z i line.text) (sym (cut_here xs i line.text (omega (arith, size)) here))
+    (IsBadLine.no_directive (take i xs) (drop (i + 1) xs) i line.text (sym (length-take-le i xs (omega (arith, size)))) p some f there)
 
 -- ---- names of modules
 
-pub not_name : (lines rest modules : List (List ℕ)) (i : ℕ) (line : List ℕ) → AreToName lines rest → modules ≡ take i rest → i < length rest → get_or rest i [] ≡ line → AreModules modules
-    → (is_module_name line ≡ false) ⊎ (is_one_of modules line ≡ true) → IsBadLine lines line
-not_name lines rest modules i line n m h e a w = IsBadLine.no_name lines modules (drop (i + 1) rest) line
-    (subst (AreToName lines) (cut_here rest i line h e ∙ ap (λ z. z ++ line ∷ drop (i + 1) rest) (sym m)) n) a w
+pub not_name : (lines modules : List (List ℕ)) (begin i : ℕ) (line : List ℕ) → AreToName lines (drop begin lines) → modules ≡ take i (drop begin lines) → i < length (drop begin lines)
+    → get_or (drop begin lines) i [] ≡ line → AreModules modules → (is_module_name line ≡ false) ⊎ (is_one_of modules line ≡ true) → IsBadLine lines (begin + i) line
+not_name lines modules begin i line n m h e a w = let rest = drop begin lines in IsBadLine.no_name lines modules (drop (i + 1) rest) (begin + i) line
+    (subst (AreToName lines) (cut_here rest i line h e ∙ ap (λ z. z ++ line ∷ drop (i + 1) rest) (sym m)) n)
+    (let all = length-drop begin lines in let size = length-drop (i + 1) rest in omega (arith, all, size)) a w
 
 -- ---- names that are known
 

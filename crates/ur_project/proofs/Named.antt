@@ -1,5 +1,5 @@
 -- The names of modules: they are text, and a file of one is a project.
-use Rattle.std.proofs.Common.{◌≡◌, ◌∙◌, inl, inr, ℕ, ◌+◌, ◌-◌, ◌<◌, true, false, not, ◌==◌, if◌then◌else◌, List, [], ◌∷◌, ◌++◌, length, map, take, drop, get_or, refl, ap, sym, subst, arith}
+use Rattle.std.proofs.Common.{◌≡◌, ◌∙◌, ◌⊎◌, inl, inr, ℕ, ◌+◌, ◌-◌, ◌<◌, true, false, not, ◌==◌, if◌then◌else◌, List, [], ◌∷◌, ◌++◌, length, map, take, drop, get_or, refl, ap, sym, subst, arith}
 use Rattle.std.proofs.lemmas.Bool.Decides.{nat_tests}
 use Rattle.std.proofs.lemmas.Str.{IsUtf8-from_ascii}
 use Rattle.std.proofs.lemmas.Str.Ascii.{IsAscii-nil, IsAscii-cons}
@@ -8,13 +8,11 @@ use Rattle.std.specs.Str.Lines.{lines, strip_carriage_return}
 use Rattle.std.proofs.Math.Seq.{drop-length, take-length, take-append_seam, get_or-append_seam}
 use Rattle.std.proofs.lemmas.List.{get_or_append_left, length-append}
 use Rattle.std.proofs.lemmas.List.Sums.{AllPass-from_list_all, position_or_len_is, prefix_len_is, suffix_len_is}
-use Rattle.ur_page.specs.Spelling.{SpellsProject}
 use Rattle.ur_project.specs.Lines.{is_space, is_empty, trimmed, without_last, project_lines}
 use Rattle.ur_project.specs.Project.{AreToName, IsProject}
 use Rattle.ur_project.proofs.Cuts.{is_newline, first_cut, line_whole}
 use Rattle.std.specs.Str.{IsAscii, IsUtf8}
-use Rattle.ur_page.proofs.Once.{module_bytes}
-use Rattle.ur_page.specs.Words.{is_name_byte, is_module_name}
+use Rattle.ur_page.specs.Words.{is_name_byte, is_small, is_module_name}
 use Rattle.ur_project.proofs.Facing.{apart, and_true, both_true}
 
 byte_is : (b : ℕ) → is_name_byte b ≡ true → b < 128
@@ -23,6 +21,11 @@ byte_is b h = grind (arith, nat_tests)
 bytes_are : (bytes : List ℕ) → list_all is_name_byte bytes ≡ true → IsAscii bytes
 bytes_are [] h = IsAscii-nil
 bytes_are (b ∷ bytes) h = let both = and_true (is_name_byte b) (list_all is_name_byte bytes) h in IsAscii-cons b bytes (byte_is b both.0) (bytes_are bytes both.1)
+
+-- the name of a module has name bytes alone
+module_bytes : (name : List ℕ) → is_module_name name ≡ true → list_all is_name_byte name ≡ true
+module_bytes [] h = refl
+module_bytes (x ∷ xs) h = (and_true (is_small x) (list_all is_name_byte (x ∷ xs)) h).1
 
 pub name_is_text : (name : List ℕ) → is_module_name name ≡ true → IsUtf8 name
 name_is_text name h = IsUtf8-from_ascii name (bytes_are name (module_bytes name h))
@@ -100,6 +103,6 @@ line_is_text : (name : List ℕ) → list_all is_name_byte name ≡ true → IsA
 line_is_text [] h = IsAscii-cons 10 [] (omega arith) IsAscii-nil
 line_is_text (b ∷ name) h = let both = and_true (is_name_byte b) (list_all is_name_byte name) h in IsAscii-cons b (name ++ 10 ∷ []) (byte_is b both.0) (line_is_text name both.1)
 
-pub one_name : (name bytes : List ℕ) → SpellsProject name bytes → IsProject bytes (name ∷ [])
-one_name name bytes (h, inl e) = rw e (project_of name name h (name_is_text name h) (one_line name name (lines_of_name name h) h))
-one_name name bytes (h, inr e) = rw e (project_of name (name ++ 10 ∷ []) h (IsUtf8-from_ascii (name ++ 10 ∷ []) (line_is_text name (module_bytes name h))) (one_line (name ++ 10 ∷ []) name (lines_of_line name h) h))
+pub one_name : (name bytes : List ℕ) → is_module_name name ≡ true → (bytes ≡ name) ⊎ (bytes ≡ name ++ 10 ∷ []) → IsProject bytes (name ∷ [])
+one_name name bytes h (inl e) = rw e (project_of name name h (name_is_text name h) (one_line name name (lines_of_name name h) h))
+one_name name bytes h (inr e) = rw e (project_of name (name ++ 10 ∷ []) h (IsUtf8-from_ascii (name ++ 10 ∷ []) (line_is_text name (module_bytes name h))) (one_line (name ++ 10 ∷ []) name (lines_of_line name h) h))

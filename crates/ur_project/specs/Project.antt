@@ -1,10 +1,10 @@
 -- Which modules a project file names, and why it names none.
-use Rattle.std.specs.Prelude.{◌≡◌, ◌≢◌, ◌⊎◌, ℕ, ◌<◌, Bool, true, false, not, ◌||◌, List, [], ◌∷◌, ◌++◌, length, slice_range, Contains, IsUtf8, codes, bytes_eq, nat_eq}
+use Rattle.std.specs.Prelude.{◌≡◌, ◌≢◌, ◌⊎◌, ℕ, ◌+◌, ◌<◌, ◌≤◌, Bool, true, false, not, ◌||◌, List, [], ◌∷◌, ◌++◌, length, take, slice_range, Contains, IsUtf8, codes, bytes_eq, nat_eq}
 use Rattle.std.specs.List.{list_all, starts_with}
 use Rattle.ur_base.specs.declared.refusal.Refusal.{Refusal}
 use Rattle.ur_base.specs.Stopping.{Says}
 use Rattle.ur_page.specs.Words.{is_module_name, is_one_of, are_distinct}
-use Rattle.ur_project.specs.Lines.{is_empty, project_lines}
+use Rattle.ur_project.specs.Lines.{is_empty, line_ends, project_lines}
 
 -- `database` or `sql` with a space and any text, `debug`, or what begins with `#`
 abbrev pub is_directive : List ℕ → Bool
@@ -29,22 +29,31 @@ pub record IsProject (bytes : List ℕ) (modules : List (List ℕ)) : Type 0 whe
   pub fit : AreModules modules
   pub some : modules ≢ []
 
--- The first line, from the top, that stands wrong where it stands.
-pub data IsBadLine : List (List ℕ) → List ℕ → Type 0 where
+-- The first line, from the top, that stands wrong where it stands, with its number, which is how many lines stand before it.
+pub data IsBadLine : List (List ℕ) → ℕ → List ℕ → Type 0 where
   -- no directive, before an empty line
-  no_directive : (before behind : List (List ℕ)) (line : List ℕ) → list_all is_directive before ≡ true → line ≢ [] → is_directive line ≡ false
-      → Contains behind [] → IsBadLine (before ++ line ∷ behind) line
+  no_directive : (before behind : List (List ℕ)) (number : ℕ) (line : List ℕ) → number ≡ length before → list_all is_directive before ≡ true → line ≢ []
+      → is_directive line ≡ false → Contains behind [] → IsBadLine (before ++ line ∷ behind) number line
   -- no name of a module, or one that stands above
-  no_name : (lines before behind : List (List ℕ)) (line : List ℕ) → AreToName lines (before ++ line ∷ behind) → AreModules before
-      → (is_module_name line ≡ false) ⊎ (is_one_of before line ≡ true) → IsBadLine lines line
+  no_name : (lines before behind : List (List ℕ)) (number : ℕ) (line : List ℕ) → AreToName lines (before ++ line ∷ behind)
+      → number + length (line ∷ behind) ≡ length lines → AreModules before → (is_module_name line ≡ false) ⊎ (is_one_of before line ≡ true)
+      → IsBadLine lines number line
   -- an empty one in place of a module's name, where no line is to name one
-  no_modules : (lines : List (List ℕ)) → AreToName lines [] → IsBadLine lines []
+  no_modules : (lines : List (List ℕ)) (number : ℕ) → number ≡ 0 → AreToName lines [] → IsBadLine lines number []
 
--- the refusal is this code with these texts, and speaks of bytes of the project file, which stand at its place
-pub record SaysOf (bytes : List ℕ) (code : ℕ) (left right at' : List ℕ) (r : Refusal) : Type 0 where
-  pub says : Says r code left right
+-- The refusal is E01 with the line of this number, and its place is that of the line: as many lines end before it as stand
+-- before the line, whose bytes stand there.
+pub record SaysOfLine (bytes : List ℕ) (number : ℕ) (line : List ℕ) (r : Refusal) : Type 0 where
+  pub says : Says r 1 line []
   pub file : r.span.file ≡ 0
-  pub place : slice_range bytes r.span.«from» r.span.to ≡ at'
+  pub before : line_ends (take r.span.«from» bytes) ≡ number
+  pub ends : r.span.to ≡ r.span.«from» + length line
+  pub within : r.span.to ≤ length bytes
+  pub place : slice_range bytes r.span.«from» r.span.to ≡ line
+
+-- the refusal is this code with these texts, and its place is empty, at the begin of the project file
+abbrev pub SaysOfFile : ℕ → List ℕ → List ℕ → Refusal → Type 0
+SaysOfFile code left right r = Says r code left right × (r.span ≡ record { file = 0; from = 0; to = 0 })
 
 -- how many modules a project has at most
 abbrev pub module_limit : ℕ
@@ -52,7 +61,8 @@ module_limit = 64
 
 -- Why the file of this name gives no modules: it is not UTF-8, a line is wrong, or there are too many.
 pub data RefusesProject (file bytes : List ℕ) (r : Refusal) : Type 0 where
-  not_text : (IsUtf8 bytes → ⊥) → SaysOf bytes 3 file [] [] r → RefusesProject file bytes r
-  bad_line : (line : List ℕ) → IsUtf8 bytes → IsBadLine (project_lines bytes) line → SaysOf bytes 1 line [] line r → RefusesProject file bytes r
-  too_many : (modules : List (List ℕ)) → IsProject bytes modules → module_limit < length modules → SaysOf bytes 20 (codes "modules") (codes "64") [] r
+  not_text : (IsUtf8 bytes → ⊥) → SaysOfFile 3 file [] r → RefusesProject file bytes r
+  bad_line : (number : ℕ) (line : List ℕ) → IsUtf8 bytes → IsBadLine (project_lines bytes) number line → SaysOfLine bytes number line r
+      → RefusesProject file bytes r
+  too_many : (modules : List (List ℕ)) → IsProject bytes modules → module_limit < length modules → SaysOfFile 20 (codes "modules") (codes "64") r
       → RefusesProject file bytes r

@@ -1,9 +1,9 @@
 //! The lines of a project file, with their places.
-ghost use Rattle.std.specs.Prelude.{◌≡◌, ◌<◌, ◌≤◌, ◌-◌, ◌∷◌, All, IfOk, length, map, drop};
+ghost use Rattle.std.specs.Prelude.{◌≡◌, ◌<◌, ◌≤◌, ◌+◌, ◌-◌, ◌∷◌, IfOk, length, map, take, drop};
 ghost use Rattle.std.specs.List.{suffix_len};
 ghost use Rattle.std.specs.Str.Lines.{lines};
-ghost use Rattle.ur_project.specs.Lines.{trimmed, is_empty};
-ghost use Rattle.ur_project.specs.Placed.{texts, Stands};
+ghost use Rattle.ur_project.specs.Lines.{trimmed, is_empty, line_ends};
+ghost use Rattle.ur_project.specs.Placed.{texts, Stands, AreStanding};
 
 use crate::pieces::{first_line, trim_end, trim_start};
 use std::alloc::Global;
@@ -21,7 +21,8 @@ fn line_at(alloc: Global, bytes: &[u8], at: usize) -> Result<(Line, usize), Memo
     requires short { length bytes.now ≤ 1048576 }
     requires within { at < length bytes.now }
     ensures line { IfOk result (λ r. map trimmed (lines (drop at bytes.now)) ≡ r.0.text ∷ map trimmed (lines (drop r.1 bytes.now))) }
-    ensures stands { IfOk result (λ r. Stands bytes.now r.0) }
+    ensures stands { IfOk result (λ r. Stands bytes.now (line_ends (take at bytes.now)) r.0) }
+    ensures number { IfOk result (λ r. r.1 < length bytes.now → line_ends (take r.1 bytes.now) ≡ line_ends (take at bytes.now) + 1) }
     ensures goes { IfOk result (λ r. at < r.1) }
     ensures ends { IfOk result (λ r. r.1 ≤ length bytes.now) }
 {
@@ -42,7 +43,7 @@ fn line_at(alloc: Global, bytes: &[u8], at: usize) -> Result<(Line, usize), Memo
 pub fn all_lines(alloc: Global, bytes: &[u8]) -> Result<List<Line>, Memory>
     requires { length bytes.now ≤ 1048576 }
     ensures texts { IfOk result (λ found. texts found ≡ map trimmed (lines bytes.now)) }
-    ensures places { IfOk result (All (Stands bytes.now)) }
+    ensures places { IfOk result (AreStanding bytes.now) }
 {
     let mut found = List::new(alloc);
     let mut at = 0;

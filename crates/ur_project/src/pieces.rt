@@ -2,7 +2,7 @@
 ghost use Rattle.std.specs.Prelude.{◌≡◌, ◌<◌, ◌≤◌, ◌+◌, ◌==◌, ◌∷◌, length, take, drop};
 ghost use Rattle.std.specs.List.{position_or_len};
 ghost use Rattle.std.specs.Str.Lines.{lines, strip_carriage_return};
-ghost use Rattle.ur_project.specs.Lines.{is_space, without_first, without_last};
+ghost use Rattle.ur_project.specs.Lines.{is_space, line_ends, without_first, without_last};
 
 /// The first line of bytes, and how many bytes it and its end take.
 pub fn first_line(bytes: &[u8]) -> (&[u8], usize)
@@ -12,6 +12,8 @@ pub fn first_line(bytes: &[u8]) -> (&[u8], usize)
     ensures goes { 0 < result.1 }
     ensures within { result.1 ≤ length bytes.now }
     ensures holds { length result.0.now ≤ result.1 }
+    ensures plain { line_ends result.0.now ≡ 0 }
+    ensures ended { result.1 < length bytes.now → line_ends (take result.1 bytes.now) ≡ 1 }
 {
     let end = line_end(bytes);
     if end < bytes.len() {

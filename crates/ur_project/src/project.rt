@@ -1,7 +1,7 @@
 //! Project files.
-ghost use Rattle.std.specs.Prelude.{◌≡◌, ◌≤◌, ◌∷◌, [], List, ℕ, IfOk, IsUtf8, length};
+ghost use Rattle.std.specs.Prelude.{◌≡◌, ◌≤◌, ◌⊎◌, ◌∷◌, ◌++◌, [], true, List, ℕ, IfOk, IsUtf8, length};
 ghost use Rattle.ur_base.specs.Stopping.{IfRefused};
-ghost use Rattle.ur_page.specs.Spelling.{SpellsProject};
+ghost use Rattle.ur_page.specs.Words.{is_module_name};
 ghost use Rattle.ur_project.specs.Lines.{project_lines};
 ghost use Rattle.ur_project.specs.Placed.{SaysWhole};
 ghost use Rattle.ur_project.specs.Project.{IsProject, IsBadLine, RefusesProject, module_limit};
@@ -83,11 +83,11 @@ pub fn one_project()
 
 /// One line at most is the first that is wrong, and a file with such a line is no project.
 pub fn one_bad_line()
-    ensures one { (lines : List (List ℕ)) (a b : List ℕ) → IsBadLine lines a → IsBadLine lines b → a ≡ b }
-    ensures none { (bytes line : List ℕ) (modules : List (List ℕ)) → IsBadLine (project_lines bytes) line → IsProject bytes modules → ⊥ }
+    ensures one { (lines : List (List ℕ)) (m n : ℕ) (a b : List ℕ) → IsBadLine lines m a → IsBadLine lines n b → (m ≡ n) × (a ≡ b) }
+    ensures none { (bytes : List ℕ) (number : ℕ) (line : List ℕ) (modules : List (List ℕ)) → IsBadLine (project_lines bytes) number line → IsProject bytes modules → ⊥ }
 {}
 
 /// A file of one name of a module, with or without a LF, is the project of that module.
 pub fn one_name_is_a_project()
-    ensures { (name bytes : List ℕ) → SpellsProject name bytes → IsProject bytes (name ∷ []) }
+    ensures { (name bytes : List ℕ) → is_module_name name ≡ true → (bytes ≡ name) ⊎ (bytes ≡ name ++ 10 ∷ []) → IsProject bytes (name ∷ []) }
 {}

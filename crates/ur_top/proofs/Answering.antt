@@ -17,7 +17,7 @@ use Rattle.ur_top.specs.Headline.{IsSession, IsSessionOn}
 use Rattle.ur_top.specs.Http.{answer, item_of, items_of, path_asked, request_bytes, after_path, is_path}
 use Rattle.ur_top.specs.Inputs.{Takes, HasGiven}
 use Rattle.ur_top.specs.Sessions.{Served}
-use Rattle.ur_top.specs.declared.program.Program.{Program}
+use Rattle.ur_load.specs.declared.program.Program.{Program}
 
 -- ---- the input that is looked at
 

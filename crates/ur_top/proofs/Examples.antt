@@ -3,7 +3,7 @@ use Rattle.std.proofs.Common.{◌≡◌, ℕ, negsuc, false, List, [], ◌∷◌
 use Rattle.std.specs.Fmt.{digits}
 use Rattle.ur_page.specs.declared.module.Function.{Function}
 use Rattle.ur_page.specs.declared.module.Part.{Text, Element', Show, more_of-Part, end_of-Part}
-use Rattle.ur_top.specs.declared.program.Program.{Program}
+use Rattle.ur_load.specs.declared.program.Program.{Program}
 use Rattle.std.specs.Str.{is_utf8, chars}
 use lib.Utf8.{encode as utf8_encode}
 use denote.Hole.Carrier as Carrier

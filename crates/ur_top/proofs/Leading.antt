@@ -5,7 +5,7 @@ use Rattle.std.proofs.lemmas.List.Elements.{All-map}
 use Rattle.ur_page.specs.declared.module.Function.{Function}
 use Rattle.ur_tags.specs.Routes.{IsNamed, AreRoutes}
 use Rattle.ur_tags.proofs.LeadBack.{lead_back}
-use Rattle.ur_top.specs.declared.program.Program.{Program}
+use Rattle.ur_load.specs.declared.program.Program.{Program}
 use Rattle.ur_top.specs.Program.{route_of, handlers_of}
 use Rattle.ur_top.specs.Links.{HasPlainNames, LeadsBack}
 

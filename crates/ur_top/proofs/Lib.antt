@@ -3,11 +3,9 @@ mod SessionRows
 pub mod Answering
 pub mod Arguments
 pub mod Asking
-pub mod Folders
 pub mod Leading
-pub mod Loaded
-pub mod Names
 pub mod Opened
 pub mod Parts
+pub mod Plain
 pub mod Statuses
 pub mod Taken

@@ -4,11 +4,11 @@ use Rattle.ur_base.specs.Told.{WhereTold}
 use Rattle.ur_io.specs.Files.{Files}
 use Rattle.ur_io.specs.Traffic.{Traffic, Opens, onto_last, opened}
 use Rattle.ur_io.specs.declared.session.SessionEnd.{SessionEnd}
-use Rattle.ur_top.proofs.Loaded.{one_program}
-use Rattle.ur_top.specs.Accepts.{Accepts}
+use Rattle.ur_load.proofs.Laws.{one_program}
+use Rattle.ur_load.specs.Accepts.{Accepts}
 use Rattle.ur_top.specs.Words.{ForProject}
 use Rattle.ur_top.specs.Headline.{IsSession, IsSessionOn, RunsProgram, Serves}
-use Rattle.ur_top.specs.declared.program.Program.{Program}
+use Rattle.ur_load.specs.declared.program.Program.{Program}
 
 onto_fresh : (lists : List (List ℕ)) (bytes : List ℕ) → onto_last (lists ++ [] ∷ []) bytes ≡ lists ++ bytes ∷ []
 onto_fresh [] bytes = refl

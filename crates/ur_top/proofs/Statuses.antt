@@ -6,14 +6,14 @@ use Rattle.ur_base.specs.declared.refusal.Refusal.{Refusal}
 use Rattle.ur_io.specs.Files.{Files}
 use Rattle.ur_io.specs.Traffic.{Traffic}
 use Rattle.ur_io.specs.declared.session.SessionEnd.{SessionEnd}
-use Rattle.ur_top.proofs.Loaded.{not_both}
-use Rattle.ur_top.specs.Accepts.{Accepts, Refuses, IsRefused}
+use Rattle.ur_load.proofs.Laws.{not_both}
+use Rattle.ur_load.specs.Accepts.{Accepts, Refuses, IsRefused}
 use Rattle.ur_top.specs.Causes.{Standing, Ends, IsStatus, Reports, SaysAt, Untouched, Names, IsAccepted}
 use Rattle.ur_top.specs.Headline.{IsCutOff}
 use Rattle.ur_top.specs.Prints.{Prints}
 use Rattle.ur_top.specs.Reports.{refusal_line, usage}
 use Rattle.ur_top.specs.Words.{replayed, ForProject}
-use Rattle.ur_top.specs.declared.program.Program.{Program}
+use Rattle.ur_load.specs.declared.program.Program.{Program}
 use Rattle.ur_top.specs.declared.reporting.RunEnd.{RunEnd}
 use Rattle.ur_top.specs.declared.reporting.RunEnd.TheVariants.{Done, Usage, Refused, Shelf, Wire, Memory}
 
@@ -48,7 +48,7 @@ module _ (told : Option Files) (words : List (List ℕ)) (before after : ℕ) (o
   refusal_named : (o : Option Files) (project file : List ℕ) (r : Refusal) → replayed words ≡ Some project → WhereTold o (λ files. IsRefused files project file r)
       → WhereTold o (λ files. ForProject (replayed words) (λ project. (r : Refusal) × Refuses files project r))
   refusal_named None project file r is w = tt
-  refusal_named (Some files) project file r is w = rw is (r, w.1)
+  refusal_named (Some files) project file r is w = rw is (r, (file, w))
 
   pub refused_only : (end : RunEnd) → Ends told words before after old new end sessions → IsStatus end status → status ≡ 2
       → WhereTold told (λ files. ForProject (replayed words) (λ project. (r : Refusal) × Refuses files project r))
@@ -78,7 +78,7 @@ module _ (told : Option Files) (words : List (List ℕ)) (before after : ℕ) (o
       let same : Some project' ≡ Some project = sym is' ∙ is in
       let name : project' ≡ project = cc in
       let found : (file : List ℕ) × (r : Refusal) × IsRefused files project' file r = rw t at w in
-      (found.1, subst (λ p. Refuses files p found.1) name found.2.1)
+      (found.1, subst (λ p. Refuses files p found.1) name (found.0, found.2))
 
   pub refused_statuses : (end : RunEnd) → Ends told words before after old new end sessions → IsStatus end status
       → WhereTold told (λ files. ForProject (replayed words) (λ project. (r : Refusal) → Refuses files project r → Contains (2 ∷ 4 ∷ 5 ∷ 8 ∷ []) status))

@@ -6,11 +6,11 @@ use Rattle.ur_io.specs.Files.{Files}
 use Rattle.ur_io.specs.Fronts.{IsFront}
 use Rattle.ur_io.specs.Traffic.{Traffic}
 use Rattle.ur_io.specs.declared.session.SessionEnd.{SessionEnd}
-use Rattle.ur_top.specs.Accepts.{Accepts, IsRefused}
+use Rattle.ur_load.specs.Accepts.{Accepts, IsRefused}
 use Rattle.ur_top.specs.Headline.{IsCutOff}
 use Rattle.ur_top.specs.Reports.{refusal_line, usage}
 use Rattle.ur_top.specs.Words.{replayed}
-use Rattle.ur_top.specs.declared.program.Program.{Program}
+use Rattle.ur_load.specs.declared.program.Program.{Program}
 use Rattle.ur_top.specs.declared.reporting.RunEnd.{RunEnd}
 use Rattle.ur_top.specs.declared.reporting.RunEnd.TheVariants.{Done, Usage, Refused, Shelf, Wire, Memory}
 

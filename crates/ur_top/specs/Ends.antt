@@ -8,7 +8,7 @@ use Rattle.ur_io.specs.declared.session.Why.{Why}
 use Rattle.ur_io.specs.declared.session.Why.TheVariants.{Wire, Closed, End}
 use Rattle.ur_top.specs.Http.{answer, item_of, path_asked, status_answer}
 use Rattle.ur_top.specs.Sessions.{Answer}
-use Rattle.ur_top.specs.declared.program.Program.{Program}
+use Rattle.ur_load.specs.declared.program.Program.{Program}
 
 -- why a session ends after its last answer
 abbrev pub why_after : Bool → Why

@@ -4,7 +4,7 @@ use Rattle.ur_base.specs.Told.{Tells}
 use Rattle.ur_io.specs.declared.session.SessionEnd.{SessionEnd}
 use Rattle.ur_io.specs.declared.session.Why.TheVariants.{Wire, End}
 use Rattle.ur_io.specs.Traffic.{Traffic, onto_last}
-use Rattle.ur_top.specs.declared.program.Program.{Program}
+use Rattle.ur_load.specs.declared.program.Program.{Program}
 use Rattle.ur_top.specs.Http.{Asks, Replies, status_answer}
 use Rattle.ur_top.specs.Sessions.{Runs, Session}
 

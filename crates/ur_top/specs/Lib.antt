@@ -1,4 +1,3 @@
-pub mod Accepts
 pub mod Bytes
 pub mod Causes
 pub mod Ends
@@ -6,10 +5,8 @@ pub mod Headline
 pub mod Http
 pub mod Inputs
 pub mod Links
-pub mod Loads
 pub mod Prints
 pub mod Program
-pub mod Projects
 pub mod Reports
 pub mod Sessions
 pub mod Words

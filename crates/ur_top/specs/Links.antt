@@ -1,7 +1,7 @@
 -- Which programs have paths that lead back to their calls.
 use Rattle.std.specs.Prelude.{◌≢◌, ◌<◌, ◌^◌, length, All, AllPairs, IsUtf8}
 use Rattle.ur_tags.specs.Paths.{RoutesBack}
-use Rattle.ur_top.specs.declared.program.Program.{Program}
+use Rattle.ur_load.specs.declared.program.Program.{Program}
 use Rattle.ur_top.specs.Program.{handlers_of}
 
 -- names of text that are not empty, and no two functions of one name

@@ -4,7 +4,7 @@ use Rattle.ur_base.specs.declared.refusal.Refusal.{Refusal}
 use Rattle.ur_base.specs.Told.{WhereTold}
 use Rattle.ur_io.specs.Files.{Files}
 use Rattle.ur_io.specs.Fronts.{IsFront}
-use Rattle.ur_top.specs.Accepts.{IsRefused}
+use Rattle.ur_load.specs.Accepts.{IsRefused}
 use Rattle.ur_top.specs.Reports.{refusal_line, usage}
 use Rattle.ur_top.specs.Words.{replayed, ForProject}
 

@@ -1,15 +1,12 @@
-//! The top call: a project is read, and one request for one of its pages is answered.
+//! The top call: one request for one of a project's pages is answered.
 #![tactic(auto)]
 
 mod answers;
-mod files;
 mod handlers;
 mod input;
 mod links;
-mod loading;
 mod outcome;
 mod pages;
-mod program;
 mod reporting;
 mod reports;
 mod requests;
@@ -17,10 +14,10 @@ mod running;
 mod serving;
 mod sessions;
 
-pub use links::links_lead_back;
+pub use links::{accepted_are_plain, links_lead_back};
 pub use outcome::Outcome;
-pub use program::Program;
 pub use running::run;
+pub use ur_load::Program;
 
 #[cfg(test)]
 mod run_tests;

@@ -278,13 +278,19 @@ fn projects_that_are_refused(rt: HostRuntime) -> Result<(), Fail> {
     let rows = [
         (None, None, "E02 app/hello.urp:0-0 app/hello.urp | \n"),
         (hello, None, "E02 app/hello.ur:0-0 app/hello.ur | \n"),
-        (Some("Hello"), None, "E21 app/hello.urp:0-0 form | \n"),
+        (Some("Hello"), None, "E01 app/hello.urp:0-5 Hello | \n"),
         (
             Some("hello\nhello\n"),
             None,
-            "E21 app/hello.urp:0-0 form | \n",
+            "E01 app/hello.urp:6-11 hello | \n",
         ),
-        (hello, Some("fun"), "E21 app/hello.ur:0-0 form | \n"),
+        (hello, Some("fun `"), "E04 app/hello.ur:4-4  | \n"),
+        (hello, Some("fun"), "E05 app/hello.ur:3-3  | \n"),
+        (
+            hello,
+            Some("val x : int = 1"),
+            "E21 app/hello.ur:0-0 form | \n",
+        ),
     ];
     for (project, module, want) in rows {
         let left = done(
@@ -304,9 +310,9 @@ fn projects_that_are_refused(rt: HostRuntime) -> Result<(), Fail> {
 
 #[test]
 fn a_shelf_that_fails(rt: HostRuntime) -> Result<(), Fail> {
-    for shelf in 1..5u64 {
+    for shelf in 1..6u64 {
         let left = done(rt.alloc(), &Start { shelf, ..PLAIN })?;
-        let (status, printed) = if shelf <= 2 {
+        let (status, printed) = if shelf <= 3 {
             (4, "shelf fault\n")
         } else {
             (0, "")

@@ -3,19 +3,19 @@ ghost use Rattle.std.specs.Prelude.{◌≡◌, ◌≢◌, ◌⊎◌, ◌≤◌, 
 ghost use Rattle.ur_base.specs.Counts.{Rose};
 ghost use Rattle.ur_base.specs.Told.{WhereTold};
 ghost use Rattle.ur_base.specs.declared.refusal.Refusal.{Refusal};
-ghost use Rattle.ur_top.specs.Accepts.{Accepts, Refuses};
+ghost use Rattle.ur_load.specs.Accepts.{Accepts, Refuses};
 ghost use Rattle.ur_top.specs.Causes.{Standing, Ends};
 ghost use Rattle.ur_top.specs.Headline.{Serves, IsCutOff};
 ghost use Rattle.ur_top.specs.Prints.{Prints};
 ghost use Rattle.ur_top.specs.Words.{replayed, ForProject};
-ghost use Rattle.ur_top.specs.declared.program.Program.{Program};
+ghost use Rattle.ur_load.specs.declared.program.Program.{Program};
 
 use crate::Outcome;
-use crate::loading::{LoadEnd, load_program};
 use crate::reporting::{RunEnd, report};
 use crate::serving::{Served, serve, unserved};
 use std::alloc::Global;
 use ur_io::{Shelf, Sink, Wire};
+use ur_load::{LoadEnd, load_program};
 
 /// Does what the words ask: `replay P` answers one request for a page of the project P. The words are those after the
 /// program's name.

@@ -1,7 +1,6 @@
 //! Worked answers: pages, routes, requests and printed lines.
 use crate::Program;
 use crate::answers::{answer, no_memory_answer, respond, status_answer};
-use crate::files::{module_file, module_name, project_file};
 use crate::handlers::handlers;
 use crate::pages::page_at;
 use crate::reports::{memory_line, refusal_line, shelf_fault_line, usage_line, wire_fault_line};
@@ -220,25 +219,5 @@ fn lines_are_printed(rt: HostRuntime) -> Result<(), Fail> {
     assert_eq!(rt; shelf_fault_line(), b"shelf fault\n".as_slice());
     assert_eq!(rt; wire_fault_line(), b"wire fault\n".as_slice());
     assert_eq!(rt; memory_line(), b"memory\n".as_slice());
-    Ok(())
-}
-
-#[test]
-fn modules_stand_in_the_folder_of_the_project(rt: HostRuntime) -> Result<(), Fail> {
-    let alloc = rt.alloc();
-    for (project, file, module) in [
-        ("hello", "hello.urp", "m.ur"),
-        ("hello.urp", "hello.urp", "m.ur"),
-        ("a/b/hello", "a/b/hello.urp", "a/b/m.ur"),
-        ("/hello.urp", "/hello.urp", "/m.ur"),
-        ("a/.urp", "a/.urp", "a/m.ur"),
-    ] {
-        let found = project_file(alloc, project)?;
-        assert_eq!(rt; found.as_str(), file);
-        let found = module_file(alloc, project, "m")?;
-        assert_eq!(rt; found.as_str(), module);
-    }
-    let name = module_name(alloc, b"hello")?;
-    assert_eq!(rt; name.as_slice(), b"Hello".as_slice());
     Ok(())
 }

@@ -9,13 +9,13 @@ use Rattle.ur_project.proofs.modules.modules_from.Goals as goal
 pub returns-then-not-is_module_name-clause-refused : goal.returns-then-not-is_module_name-clause-refused
 returns-then-not-is_module_name-clause-refused c = let r = rest_item c.args.lines.now c.args.begin c.loop-line.line-index c.line-item.result c.requires.within c.loop-line-test.true c.line-item.is in
     line_refused c.args.lines.now (c.args.begin + c.loop-line.line-index) c.line-item.result c.bad_line.result r.within r.is
-    (not_name (texts c.args.lines.now) (drop c.args.begin (texts c.args.lines.now)) c.loop-line.modules c.loop-line.line-index c.line-item.result.text c.requires.named c.loop-line.invariant.named r.below r.text c.loop-line.invariant.fit
+    (not_name (texts c.args.lines.now) c.loop-line.modules c.args.begin c.loop-line.line-index c.line-item.result.text c.requires.named c.loop-line.invariant.named r.below r.text c.loop-line.invariant.fit
     (inl (ap is_module_name (sym c.as_slice.ensures) ∙ sym c.is_module_name.ensures ∙ c.if-not-is_module_name.true))) c.bad_line.ensures
 
 pub returns-then-branch-clause-refused : goal.returns-then-branch-clause-refused
 returns-then-branch-clause-refused c = let r = rest_item c.args.lines.now c.args.begin c.loop-line.line-index c.line-item.result c.requires.within c.loop-line-test.true c.line-item.is in
     line_refused c.args.lines.now (c.args.begin + c.loop-line.line-index) c.line-item.result c.bad_line-then-branch.result r.within r.is
-    (not_name (texts c.args.lines.now) (drop c.args.begin (texts c.args.lines.now)) c.loop-line.modules c.loop-line.line-index c.line-item.result.text c.requires.named c.loop-line.invariant.named r.below r.text c.loop-line.invariant.fit
+    (not_name (texts c.args.lines.now) c.loop-line.modules c.args.begin c.loop-line.line-index c.line-item.result.text c.requires.named c.loop-line.invariant.named r.below r.text c.loop-line.invariant.fit
     (inr (ap (λ l. is_one_of l c.line-item.result.text) (sym c.loop-line.invariant.known) ∙ ap (is_one_of c.loop-line.known) (sym c.as_slice-in-loop-line.ensures) ∙ sym c.in_ok-is_known.ensures.found ∙ c.if-branch.true))) c.bad_line-then-branch.ensures
 
 pub loop-line-preserved : goal.loop-line-preserved

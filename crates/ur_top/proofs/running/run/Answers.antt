@@ -1,6 +1,6 @@
 use Rattle.std.proofs.Common.{map, string_bytes, ap}
 use Rattle.ur_base.specs.Counts.{Rose}
-use Rattle.ur_top.proofs.Loaded as loaded
+use Rattle.ur_load.proofs.Laws as loaded
 use Rattle.ur_top.proofs.Statuses as of
 use Rattle.ur_top.specs.Causes.{Standing, Reports}
 use Rattle.ur_top.specs.Prints.{Prints}

@@ -5,7 +5,7 @@ use Rattle.ur_io.specs.declared.session.Mark.TheVariants as mark
 use Rattle.ur_io.specs.declared.session.SessionEnd.{SessionEnd}
 use Rattle.ur_io.specs.declared.session.Why.{Why}
 use Rattle.ur_io.specs.declared.session.Why.TheVariants.{Closed}
-use Rattle.ur_top.specs.declared.program.Program.{Program}
+use Rattle.ur_load.specs.declared.program.Program.{Program}
 use Rattle.ur_top.specs.Ends.{reply_to, no_memory, Writes, WritesReply, why_after}
 use Rattle.ur_top.proofs.sessions.reply.Goals as goal
 
