@@ -1,5 +1,5 @@
 -- Calls of routes of code that fits are never stuck.
-use Rattle.std.proofs.Common.{◌≡◌, ℕ, zero, suc, ℤ, pos, ◌+ℤ◌, true, List, [], ◌∷◌, ◌++◌, length, Some, refl, sym, subst, ap, ap₂, ◌∙◌}
+use Rattle.std.proofs.Common.{◌≡◌, ℕ, ◌-◌, zero, suc, ℤ, pos, ◌+ℤ◌, Bool, true, false, if◌then◌else◌, List, [], ◌∷◌, ◌++◌, length, Some, refl, sym, subst, ap, ap₂, ◌∙◌, arith}
 use Rattle.std.specs.Prelude.{map, option_map, slice_get, slice_set}
 use Rattle.std.specs.List.{AllByRecursion, AllZip}
 use Rattle.std.proofs.lemmas.Option.{slice_get-map}
@@ -16,18 +16,21 @@ use Rattle.ur_sql.specs.Change.{change}
 use Rattle.ur_sql.specs.Sql.{change_at}
 use Rattle.ur_sql.specs.Typing.{QueryFits, ChangeFits}
 use Rattle.ur_tags.specs.declared.routes.Route.{Route}
+use Rattle.ur_terms.specs.declared.term.Op.{Op}
+use Rattle.ur_terms.specs.declared.term.Op.TheVariants as op
 use Rattle.ur_terms.specs.State.{State, Outcome, Done, Error, Spent, Stuck}
 use Rattle.ur_terms.specs.Types.{RouteType, record_type, FitsFunction, function_type}
-use Rattle.ur_terms.specs.Sound.{Comes, KeepsXml, KeepsTables, IsStateOf, IfAfter, NumbersLast}
+use Rattle.ur_terms.specs.Sound.{Comes, Typing, KeepsXml, KeepsTables, IsStateOf, IfAfter, NumbersLast}
 use Rattle.ur_terms.specs.Ops.{does, with_unit}
 use Rattle.ur_terms.specs.Run.{outcome_of}
 use Rattle.ur_terms.proofs.Inhabiting.{Of}
-use Rattle.ur_terms.proofs.TypedDeeds.{sound}
+use Rattle.ur_terms.proofs.Typed.{typed_outcome}
+use Rattle.ur_terms.proofs.TypedDeeds.{typing}
 use Rattle.ur_code.specs.declared.code.Code.{Code}
 use Rattle.ur_code.specs.RowType.{kind_type, query_type}
 use Rattle.ur_code.specs.RouteTypes.{route_params, IsRequestOf}
 use Rattle.ur_code.specs.Links.{HasOwnCalls}
-use Rattle.ur_code.specs.Meaning.{code_sql, outcome, at_target}
+use Rattle.ur_code.specs.Meaning.{code_sql, are_storable, if_storable, limited, does_code, outcome, at_target}
 use Rattle.ur_code.specs.Fits.{Fits, FitsRoute, route_type, signature}
 use Rattle.ur_code.specs.Sound.{FitsState, IsSound}
 use Rattle.ur_code.proofs.Links.{at_mapped, of_markup, to_markup, to_element, together, to_link, to_submit, without_form, button_fits}
@@ -50,20 +53,35 @@ other_states P S T B (Error body events) h k = h
 other_states P S T B (Spent events) h k = tt
 other_states P S T B Stuck h k = absurd h
 
+-- a change that stores too much is spent, which is an end of a run like any other
+comes_if : (P : Value → Type 0) (S : State → Type 0) (B : Value → Type 0) (c : Bool) (x : Value) (s : State) → P x × S s → Comes P S B (if c then Done x s else Spent s.events)
+comes_if P S B true x s h = h
+comes_if P S B false x s h = tt
+
+comes_storable : (P : Value → Type 0) (S : State → Type 0) (B : Value → Type 0) (w : Outcome Value) → Comes P S B w → Comes P S B (if_storable w)
+comes_storable P S B (Done x s) h = comes_if P S B (are_storable s.store) x s h
+comes_storable P S B (Error body events) h = h
+comes_storable P S B (Spent events) h = h
+comes_storable P S B Stuck h = h
+
+pub comes_limited : (P : Value → Type 0) (S : State → Type 0) (B : Value → Type 0) (o : Op) (w : Outcome Value) → Comes P S B w → Comes P S B (limited o w)
+comes_limited P S B (op.Write update) w h = comes_storable P S B w h
+comes_limited P S B _ w h = h
+
 module _ (code : Code) (fit : Fits code) where
-  abbrev own : Value → Type 0
+  abbrev pub own : Value → Type 0
   own = HasOwnCalls code.handlers
 
-  abbrev V : Value → ValueType → Type 0
+  abbrev pub V : Value → ValueType → Type 0
   V x t = Of own code.variants x t
 
-  abbrev kept : ℕ → Store → Type 0
+  abbrev pub kept : ℕ → Store → Type 0
   kept u store = FitsSchema code.schema store × NumbersLast (length code.schema.sequences) u store
 
-  route_at : (i : ℕ) (r : Route) → slice_get code.handlers.routes i ≡ Some r → (target : ℕ) × (slice_get code.targets i ≡ Some target) × FitsRoute code r target
+  pub route_at : (i : ℕ) (r : Route) → slice_get code.handlers.routes i ≡ Some r → (target : ℕ) × (slice_get code.targets i ≡ Some target) × FitsRoute code r target
   route_at i r e = at_zip (FitsRoute code) code.handlers.routes code.targets i r fit.routes e
 
-  keeps_xml : KeepsXml own (signature code) V
+  pub keeps_xml : KeepsXml own (signature code) V
   keeps_xml = record {
     none = to_markup code.handlers [] tt;
     together = λ a b h k. to_markup code.handlers (a ++ b) (together code.handlers a b (of_markup code.handlers a h) (of_markup code.handlers b k));
@@ -99,7 +117,7 @@ module _ (code : Code) (fit : Fits code) where
   kept_after u old (DuplicateKey k) numbers h = tt
   kept_after u old TableFull numbers h = tt
 
-  keeps_tables : KeepsTables (signature code) V kept (code_sql code)
+  pub keeps_tables : KeepsTables (signature code) V kept (code_sql code)
   keeps_tables = record {
     fewer = λ u w store le h. (h.0, fewer_last (length code.schema.sequences) u w store le h.1);
     answers = λ site ts row key u store at h k. (
@@ -121,11 +139,31 @@ module _ (code : Code) (fit : Fits code) where
         (d.0, d.1, d.2, (record { tables = fits.tables; sequences = numbers_set code.schema.sequences store.sequences q (d.0 +ℤ pos 1) fits.sequences }, d.3)));
   }
 
-  state_is : (s : State) → FitsState code s → IsStateOf (signature code) V kept s
+  pub state_is : (s : State) → FitsState code s → IsStateOf (signature code) V kept s
   state_is s h = ((h.store, h.numbers), cookies_values own code.variants s.carried code.cookies h.carried)
 
-  is_state : (s : State) → IsStateOf (signature code) V kept s → FitsState code s
+  pub is_state : (s : State) → IsStateOf (signature code) V kept s → FitsState code s
   is_state s h = record { store = h.0.0; numbers = h.0.1; carried = values_cookies own code.variants s.carried code.cookies h.1 }
+
+  table : Typing (signature code) V (IsStateOf (signature code) V kept) (λ x. V x ty.Xbody) (does (code_sql code))
+  table = typing own (signature code) keeps_xml kept (code_sql code) keeps_tables
+
+  -- the operations of code keep to their types
+  pub typing_code : Typing (signature code) V (IsStateOf (signature code) V kept) (λ x. V x ty.Xbody) (does_code code)
+  typing_code = record {
+    int = table.int;
+    text = table.text;
+    bool = table.bool;
+    as_bool = table.as_bool;
+    as_items = table.as_items;
+    binds = table.binds;
+    covers = table.covers;
+    joins = table.joins;
+    deeds = λ o ts r xs s has vs f. comes_limited (λ x. V x r) (IsStateOf (signature code) V kept) (λ x. V x ty.Xbody) o (does (code_sql code) o xs s) (table.deeds o ts r xs s has vs f);
+  }
+
+  fewer_units : (n : ℕ) (s : State) → IsStateOf (signature code) V kept s → IsStateOf (signature code) V kept (record s { units = s.units - n })
+  fewer_units n s f = (keeps_tables.fewer s.units (s.units - n) s.store (omega arith) f.0, f.1)
 
   pub never_stuck : (call : Call) (s : State) → IsRequestOf code.handlers call → FitsState code s → IsSound code (outcome code call s)
   never_stuck call s request h =
@@ -135,8 +173,8 @@ module _ (code : Code) (fit : Fits code) where
       slice_get-map function_type code.functions (at.0) ∙ ap (option_map function_type) target.is_function ∙ ap₂ (λ a b. Some (a, b)) target.params target.page in
       subst (λ o. IsSound code (at_target code o call s)) (sym (at.1))
       (other_states (λ x. V x ty.Page) (IsStateOf (signature code) V kept) (FitsState code) (λ x. V x ty.Xbody)
-      (outcome_of (does (code_sql code)) code.functions (at.0) call.args s)
-      (sound own (signature code) keeps_xml kept (code_sql code) keeps_tables code.functions refl
+      (outcome_of (does_code code) code.functions (at.0) call.args s)
+      (typed_outcome (signature code) V (IsStateOf (signature code) V kept) (λ x. V x ty.Xbody) (does_code code) typing_code fewer_units code.functions refl
       (recursion_from_All (FitsFunction (signature code)) code.functions fit.functions)
       (at.0) (route_params request.route) ty.Page call.args s function (request_values own code.variants code.handlers call request) (state_is s h))
       is_state)

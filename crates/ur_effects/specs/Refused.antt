@@ -1,5 +1,5 @@
 -- What `effects` says of code.
-use Rattle.std.specs.Prelude.{ℕ, List, [], codes, Option, Some, None, slice_get}
+use Rattle.std.specs.Prelude.{◌≡◌, ℕ, List, [], codes, Option, Some, None, slice_get}
 use Rattle.std.specs.List.{join_by}
 use Rattle.ur_base.specs.declared.refusal.Refusal.{Refusal}
 use Rattle.ur_base.specs.Stopping.{Says}
@@ -27,9 +27,10 @@ deed_text dml = codes "dml"
 deed_text nextval = codes "nextval"
 deed_text set_cookie = codes "setCookie"
 
--- a route that answers GET writes: by this chain of functions, and so
+-- a route that answers GET writes: by this chain of functions, and so; this stands at no place of the source
 pub record ExplainsWrite (code : Code) (r : Refusal) : Type 0 where
   pub chain : List ℕ
   pub write : Deed
   pub writes : GetWrites code chain write
   pub says : Says r 14 (chain_text code.functions chain) (deed_text write)
+  pub no_place : r.span ≡ record { file = 0; from = 0; to = 0 }

@@ -6,7 +6,5 @@ mod chain;
 mod deeds;
 mod refusing;
 mod search;
-#[cfg(test)]
-mod tests;
 
 pub use refusing::effects;

@@ -1,5 +1,5 @@
 //! Steps of the machine.
-ghost use Rattle.std.specs.Prelude.{◌≡◌, List, Some};
+ghost use Rattle.std.specs.Prelude.{◌≡◌, ◌≤◌, List, Some};
 ghost use Rattle.ur_terms.specs.declared.term.Term.{Term};
 ghost use Rattle.ur_terms.specs.declared.term.Term.TheVariants as term;
 ghost use Rattle.ur_frames.specs.declared.frame.Frame.TheVariants as frame;
@@ -22,7 +22,8 @@ use ur_values::Value;
 impl Machine {
     /// Enters a part of a term under a new frame.
     fn descend<'a>(&mut self, frame: Frame, part: &'a Term) -> Next<'a>
-        ensures { Descends frame part.now self.old self.new result }
+        ensures descends { Descends frame part.now self.old self.new result }
+        ensures units { self.new.units ≤ self.old.units }
     {
         if self.frames.push(frame).is_err() {
             return Next::Off(Pause::Memory);
@@ -39,7 +40,8 @@ impl Machine {
         args: List<Value>,
     ) -> Next<'a>
         requires { IsSafe functions.now self.old (performing op.now args) }
-        ensures { Leads functions.now self.old (performing op.now args) no_cost self.new result }
+        ensures leads { Leads functions.now self.old (performing op.now args) no_cost self.new result }
+        ensures units { self.new.units ≤ self.old.units }
     {
         match operations.perform(op, args, &self.carried, &mut self.sent) {
             Performed::Done(value) => Next::On(Control::Give(value)),
@@ -59,7 +61,8 @@ impl Machine {
         args: List<Value>,
     ) -> Next<'a>
         requires { IsSafe functions.now self.old (calling functions.now function args) }
-        ensures { Leads functions.now self.old (calling functions.now function args) (calling_cost functions.now function args) self.new result }
+        ensures leads { Leads functions.now self.old (calling functions.now function args) (calling_cost functions.now function args) self.new result }
+        ensures units { self.new.units ≤ self.old.units }
     {
         if self.units == 0 {
             return Next::Off(Pause::Spent);
@@ -88,7 +91,8 @@ impl Machine {
     ) -> Next<'a>
         requires stands { standing functions.now self.old.frames ≡ Some place.now }
         requires body { (xs : List Term) × (place.now ≡ term.Let xs body.now) }
-        ensures { Leads functions.now self.old (binding functions.now body.now args) (binding_cost functions.now body.now args) self.new result }
+        ensures leads { Leads functions.now self.old (binding functions.now body.now args) (binding_cost functions.now body.now args) self.new result }
+        ensures units { self.new.units ≤ self.old.units }
     {
         let bound = args.len();
         if self.values.push_all(args).is_err() {
@@ -108,7 +112,8 @@ impl Machine {
     ) -> Next<'a>
         requires stands { standing functions.now self.old.frames ≡ Some place.now }
         requires safe { IsSafe functions.now self.old (applying functions.now place.now args) }
-        ensures { Leads functions.now self.old (applying functions.now place.now args) (applying_cost functions.now place.now args) self.new result }
+        ensures leads { Leads functions.now self.old (applying functions.now place.now args) (applying_cost functions.now place.now args) self.new result }
+        ensures units { self.new.units ≤ self.old.units }
     {
         match place {
             Term::Make(op, _) => self.perform(operations, functions, op, args),
@@ -129,7 +134,8 @@ impl Machine {
     ) -> Next<'a>
         requires stands { standing functions.now self.old.frames ≡ Some place.now }
         requires safe { IsSafe functions.now self.old (with_args functions.now place.now done) }
-        ensures { Leads functions.now self.old (with_args functions.now place.now done) (with_args_cost functions.now place.now done) self.new result }
+        ensures leads { Leads functions.now self.old (with_args functions.now place.now done) (with_args_cost functions.now place.now done) self.new result }
+        ensures units { self.new.units ≤ self.old.units }
     {
         match argument(place, done.len()) {
             Some(next) => self.descend(Frame::Args(done), next),
@@ -150,7 +156,8 @@ impl Machine {
         requires stands { standing functions.now self.old.frames ≡ Some place.now }
         requires body { (rows : Term) × (place.now ≡ term.Each rows body.now) }
         requires safe { IsSafe functions.now self.old (with_items functions.now body.now done rest) }
-        ensures { Leads functions.now self.old (with_items functions.now body.now done rest) (with_items_cost functions.now body.now rest) self.new result }
+        ensures leads { Leads functions.now self.old (with_items functions.now body.now done rest) (with_items_cost functions.now body.now rest) self.new result }
+        ensures units { self.new.units ≤ self.old.units }
     {
         let mut rest = rest;
         match rest.pop() {
@@ -179,7 +186,8 @@ impl Machine {
     ) -> Next<'a>
         requires stands { standing functions.now self.old.frames ≡ Some place.now }
         requires safe { IsSafe functions.now self.old (going functions.now frame.Condition place.now value) }
-        ensures { Leads functions.now self.old (going functions.now frame.Condition place.now value) (going_costs functions.now frame.Condition place.now value) self.new result }
+        ensures leads { Leads functions.now self.old (going functions.now frame.Condition place.now value) (going_costs functions.now frame.Condition place.now value) self.new result }
+        ensures units { self.new.units ≤ self.old.units }
     {
         let truth = match value {
             Value::Bool(truth) => truth,
@@ -207,7 +215,8 @@ impl Machine {
     ) -> Next<'a>
         requires stands { standing functions.now self.old.frames ≡ Some place.now }
         requires safe { IsSafe functions.now self.old (going functions.now frame.Subject place.now value) }
-        ensures { Leads functions.now self.old (going functions.now frame.Subject place.now value) (going_costs functions.now frame.Subject place.now value) self.new result }
+        ensures leads { Leads functions.now self.old (going functions.now frame.Subject place.now value) (going_costs functions.now frame.Subject place.now value) self.new result }
+        ensures units { self.new.units ≤ self.old.units }
     {
         match place {
             Term::Case(_, branches) => match find_branch(operations, branches, value) {
@@ -236,7 +245,8 @@ impl Machine {
     ) -> Next<'a>
         requires stands { standing functions.now self.old.frames ≡ Some place.now }
         requires safe { IsSafe functions.now self.old (going functions.now frame.Rows place.now value) }
-        ensures { Leads functions.now self.old (going functions.now frame.Rows place.now value) (going_costs functions.now frame.Rows place.now value) self.new result }
+        ensures leads { Leads functions.now self.old (going functions.now frame.Rows place.now value) (going_costs functions.now frame.Rows place.now value) self.new result }
+        ensures units { self.new.units ≤ self.old.units }
     {
         let items = match value {
             Value::Many(items) => items,
@@ -271,7 +281,8 @@ impl Machine {
     ) -> Next<'a>
         requires stands { standing functions.now self.old.frames ≡ Some place.now }
         requires safe { IsSafe functions.now self.old (entering functions.now place.now) }
-        ensures { Leads functions.now self.old (entering functions.now place.now) (entering_cost functions.now place.now) self.new result }
+        ensures leads { Leads functions.now self.old (entering functions.now place.now) (entering_cost functions.now place.now) self.new result }
+        ensures units { self.new.units ≤ self.old.units }
     {
         match place {
             Term::Variable(number) => match self.values.get(*number as usize) {
@@ -331,7 +342,8 @@ impl Machine {
         value: Value,
     ) -> Next<'a>
         requires { IsSafe functions.now self.old (resuming functions.now self.old.frames (frame.Args done) value) }
-        ensures { Leads functions.now self.old (resuming functions.now self.old.frames (frame.Args done) value) (resuming_cost functions.now self.old.frames (frame.Args done) value) self.new result }
+        ensures leads { Leads functions.now self.old (resuming functions.now self.old.frames (frame.Args done) value) (resuming_cost functions.now self.old.frames (frame.Args done) value) self.new result }
+        ensures units { self.new.units ≤ self.old.units }
     {
         match self.here(functions) {
             None => unreachable!(),
@@ -348,7 +360,8 @@ impl Machine {
     /// Goes on with a condition.
     fn go_on_choice<'a>(&mut self, functions: &'a List<Function>, value: Value) -> Next<'a>
         requires { IsSafe functions.now self.old (resuming functions.now self.old.frames frame.Condition value) }
-        ensures { Leads functions.now self.old (resuming functions.now self.old.frames frame.Condition value) (resuming_cost functions.now self.old.frames frame.Condition value) self.new result }
+        ensures leads { Leads functions.now self.old (resuming functions.now self.old.frames frame.Condition value) (resuming_cost functions.now self.old.frames frame.Condition value) self.new result }
+        ensures units { self.new.units ≤ self.old.units }
     {
         match self.here(functions) {
             None => unreachable!(),
@@ -364,7 +377,8 @@ impl Machine {
         value: Value,
     ) -> Next<'a>
         requires { IsSafe functions.now self.old (resuming functions.now self.old.frames frame.Subject value) }
-        ensures { Leads functions.now self.old (resuming functions.now self.old.frames frame.Subject value) (resuming_cost functions.now self.old.frames frame.Subject value) self.new result }
+        ensures leads { Leads functions.now self.old (resuming functions.now self.old.frames frame.Subject value) (resuming_cost functions.now self.old.frames frame.Subject value) self.new result }
+        ensures units { self.new.units ≤ self.old.units }
     {
         match self.here(functions) {
             None => unreachable!(),
@@ -381,7 +395,8 @@ impl Machine {
         value: Value,
     ) -> Next<'a>
         requires { IsSafe functions.now self.old (resuming functions.now self.old.frames frame.Rows value) }
-        ensures { Leads functions.now self.old (resuming functions.now self.old.frames frame.Rows value) (resuming_cost functions.now self.old.frames frame.Rows value) self.new result }
+        ensures leads { Leads functions.now self.old (resuming functions.now self.old.frames frame.Rows value) (resuming_cost functions.now self.old.frames frame.Rows value) self.new result }
+        ensures units { self.new.units ≤ self.old.units }
     {
         match self.here(functions) {
             None => unreachable!(),
@@ -399,7 +414,8 @@ impl Machine {
         value: Value,
     ) -> Next<'a>
         requires { IsSafe functions.now self.old (resuming functions.now self.old.frames (frame.Item done rest) value) }
-        ensures { Leads functions.now self.old (resuming functions.now self.old.frames (frame.Item done rest) value) (resuming_cost functions.now self.old.frames (frame.Item done rest) value) self.new result }
+        ensures leads { Leads functions.now self.old (resuming functions.now self.old.frames (frame.Item done rest) value) (resuming_cost functions.now self.old.frames (frame.Item done rest) value) self.new result }
+        ensures units { self.new.units ≤ self.old.units }
     {
         match self.here(functions) {
             None => unreachable!(),
@@ -425,7 +441,8 @@ impl Machine {
         value: Value,
     ) -> Next<'a>
         requires { IsSafe functions.now self.old (giving value) }
-        ensures { Steps functions.now self.old (control.Give value) self.new result }
+        ensures steps { Steps functions.now self.old (control.Give value) self.new result }
+        ensures units { self.new.units ≤ self.old.units }
     {
         match self.frames.pop() {
             None => Next::Off(Pause::Page(value)),
@@ -463,7 +480,8 @@ impl Machine {
     ) -> Next<'a>
         requires stands { Stands functions.now self.old control }
         requires safe { IsSafe functions.now self.old (beginning functions.now control) }
-        ensures { Steps functions.now self.old control.entry self.new result }
+        ensures steps { Steps functions.now self.old control.entry self.new result }
+        ensures units { self.new.units ≤ self.old.units }
     {
         match control {
             Control::Enter(term) => self.enter(alloc, operations, functions, term),
@@ -483,6 +501,7 @@ impl Machine {
         requires safe { IsSafe functions.now self.old (beginning functions.now control) }
         ensures ends { Ends functions.now self.old control.entry self.new result }
         ensures deed { IsDeed result }
+        ensures units { self.new.units ≤ self.old.units }
     {
         let mut control = control;
         loop {

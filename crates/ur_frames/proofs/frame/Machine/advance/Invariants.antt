@@ -1,4 +1,4 @@
-use Rattle.std.proofs.Common.{◌≡◌, List, []}
+use Rattle.std.proofs.Common.{◌≡◌, ◌≤◌, List, []}
 use Rattle.ur_values.specs.Event.{Event}
 use Rattle.ur_values.specs.Store.{Store}
 use Rattle.ur_terms.specs.Run.{Does}
@@ -10,6 +10,7 @@ abbrev pub invariant-loop-next : goal.invariant-loop-next
 invariant-loop-next g l = record {
   same : (d : Does) → Plays d → (store : Store) (events : List Event) → left d l.functions l.initial.self l.initial.control store events ≡ left d l.functions l.self l.control store events;
   stands : Stands l.functions l.self l.control;
+  units : l.self.units ≤ l.initial.self.units;
   safe : IsSafe l.functions l.self (beginning l.functions l.control);
 }
 

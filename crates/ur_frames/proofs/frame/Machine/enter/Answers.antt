@@ -16,23 +16,23 @@ next_argument-requires-in-Call-clause-safe g c = begins_safe c.args.functions.no
 pub next_argument-requires-in-Let-clause-safe : goal.next_argument-requires-in-Let-clause-safe
 next_argument-requires-in-Let-clause-safe g c = begins_safe c.args.functions.now c.args.self.now c.args.place.now c.new-in-Let.result (let_begins c.args.functions.now c.args.place.now _ _ c.in-Let.is) c.new-in-Let.ensures c.requires.safe
 
-pub returns-in-Make : goal.returns-in-Make
-returns-in-Make g c = begins_lead c.args.functions.now c.args.self.now c.next_argument.new.self c.args.place.now c.new.result c.next_argument.result (make_begins c.args.functions.now c.args.place.now _ _ c.in-Make.is) c.new.ensures c.next_argument.ensures
+pub returns-in-Make-clause-leads : goal.returns-in-Make-clause-leads
+returns-in-Make-clause-leads g c = begins_lead c.args.functions.now c.args.self.now c.next_argument.new.self c.args.place.now c.new.result c.next_argument.result (make_begins c.args.functions.now c.args.place.now _ _ c.in-Make.is) c.new.ensures c.next_argument.ensures.leads
 
-pub returns-in-Call : goal.returns-in-Call
-returns-in-Call g c = begins_lead c.args.functions.now c.args.self.now c.next_argument-in-Call.new.self c.args.place.now c.new-in-Call.result c.next_argument-in-Call.result (call_begins c.args.functions.now c.args.place.now _ _ c.in-Call.is) c.new-in-Call.ensures c.next_argument-in-Call.ensures
+pub returns-in-Call-clause-leads : goal.returns-in-Call-clause-leads
+returns-in-Call-clause-leads g c = begins_lead c.args.functions.now c.args.self.now c.next_argument-in-Call.new.self c.args.place.now c.new-in-Call.result c.next_argument-in-Call.result (call_begins c.args.functions.now c.args.place.now _ _ c.in-Call.is) c.new-in-Call.ensures c.next_argument-in-Call.ensures.leads
 
-pub returns-in-Let : goal.returns-in-Let
-returns-in-Let g c = begins_lead c.args.functions.now c.args.self.now c.next_argument-in-Let.new.self c.args.place.now c.new-in-Let.result c.next_argument-in-Let.result (let_begins c.args.functions.now c.args.place.now _ _ c.in-Let.is) c.new-in-Let.ensures c.next_argument-in-Let.ensures
+pub returns-in-Let-clause-leads : goal.returns-in-Let-clause-leads
+returns-in-Let-clause-leads g c = begins_lead c.args.functions.now c.args.self.now c.next_argument-in-Let.new.self c.args.place.now c.new-in-Let.result c.next_argument-in-Let.result (let_begins c.args.functions.now c.args.place.now _ _ c.in-Let.is) c.new-in-Let.ensures c.next_argument-in-Let.ensures.leads
 
-pub returns-in-If : goal.returns-in-If
-returns-in-If g c = enter_if c.args.functions.now c.args.self.now c.descend.new.self c.args.place.now _ _ _ c.descend.result c.requires.stands c.in-If.is
-    (subst (λ q. Descends frame.Condition q c.args.self.now c.descend.new.self c.descend.result) c.get-in-If.ensures c.descend.ensures)
+pub returns-in-If-clause-leads : goal.returns-in-If-clause-leads
+returns-in-If-clause-leads g c = enter_if c.args.functions.now c.args.self.now c.descend.new.self c.args.place.now _ _ _ c.descend.result c.requires.stands c.in-If.is
+    (subst (λ q. Descends frame.Condition q c.args.self.now c.descend.new.self c.descend.result) c.get-in-If.ensures c.descend.ensures.descends)
 
-pub returns-in-Case : goal.returns-in-Case
-returns-in-Case g c = enter_case c.args.functions.now c.args.self.now c.descend-in-Case.new.self c.args.place.now _ _ c.descend-in-Case.result c.requires.stands c.in-Case.is
-    (subst (λ q. Descends frame.Subject q c.args.self.now c.descend-in-Case.new.self c.descend-in-Case.result) c.get-in-Case.ensures c.descend-in-Case.ensures)
+pub returns-in-Case-clause-leads : goal.returns-in-Case-clause-leads
+returns-in-Case-clause-leads g c = enter_case c.args.functions.now c.args.self.now c.descend-in-Case.new.self c.args.place.now _ _ c.descend-in-Case.result c.requires.stands c.in-Case.is
+    (subst (λ q. Descends frame.Subject q c.args.self.now c.descend-in-Case.new.self c.descend-in-Case.result) c.get-in-Case.ensures c.descend-in-Case.ensures.descends)
 
-pub returns-in-Each : goal.returns-in-Each
-returns-in-Each g c = enter_each c.args.functions.now c.args.self.now c.descend-in-Each.new.self c.args.place.now _ _ c.descend-in-Each.result c.requires.stands c.in-Each.is
-    (subst (λ q. Descends frame.Rows q c.args.self.now c.descend-in-Each.new.self c.descend-in-Each.result) c.get-in-Each.ensures c.descend-in-Each.ensures)
+pub returns-in-Each-clause-leads : goal.returns-in-Each-clause-leads
+returns-in-Each-clause-leads g c = enter_each c.args.functions.now c.args.self.now c.descend-in-Each.new.self c.args.place.now _ _ c.descend-in-Each.result c.requires.stands c.in-Each.is
+    (subst (λ q. Descends frame.Rows q c.args.self.now c.descend-in-Each.new.self c.descend-in-Each.result) c.get-in-Each.ensures c.descend-in-Each.ensures.descends)

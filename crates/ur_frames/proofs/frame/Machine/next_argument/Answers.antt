@@ -10,12 +10,12 @@ apply-requires-clause-safe g c =
     let e = ap (λ n. option_and_then (λ xs. slice_get xs n) (args_of (out-Term c.args.place.now))) (sym c.len.ensures) ∙ sym c.in-None.ensures in
     all_arguments_safe c.args.functions.now c.args.self.now c.args.place.now c.args.done e c.requires.safe
 
-pub returns-in-Some : goal.returns-in-Some
-returns-in-Some g c =
+pub returns-in-Some-clause-leads : goal.returns-in-Some-clause-leads
+returns-in-Some-clause-leads g c =
     let e = ap (λ n. option_and_then (λ xs. slice_get xs n) (args_of (out-Term c.args.place.now))) (sym c.len.ensures) ∙ sym c.in-Some.ensures in
-    next_argument_leads c.args.functions.now c.args.self.now c.descend.new.self c.args.place.now c.args.done c.in-Some.next.now c.descend.result c.requires.stands e c.descend.ensures
+    next_argument_leads c.args.functions.now c.args.self.now c.descend.new.self c.args.place.now c.args.done c.in-Some.next.now c.descend.result c.requires.stands e c.descend.ensures.descends
 
-pub returns-in-None : goal.returns-in-None
-returns-in-None g c =
+pub returns-in-None-clause-leads : goal.returns-in-None-clause-leads
+returns-in-None-clause-leads g c =
     let e = ap (λ n. option_and_then (λ xs. slice_get xs n) (args_of (out-Term c.args.place.now))) (sym c.len.ensures) ∙ sym c.in-None.ensures in
-    all_arguments c.args.functions.now c.args.self.now c.apply.new.self c.args.place.now c.args.done c.apply.result e c.requires.safe c.apply.ensures
+    all_arguments c.args.functions.now c.args.self.now c.apply.new.self c.args.place.now c.args.done c.apply.result e c.requires.safe c.apply.ensures.leads
