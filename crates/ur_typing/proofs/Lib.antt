@@ -1,0 +1,9 @@
+pub mod Covering
+pub mod Declared
+pub mod FieldTypes
+pub mod Flows
+pub mod Replies
+pub mod RowTypes
+pub mod SameTypes
+pub mod Table
+pub mod Unlikes

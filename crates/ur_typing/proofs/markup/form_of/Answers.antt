@@ -1,0 +1,10 @@
+-- The form that parts make up.
+use Rattle.ur_typing.proofs.Flows.{form_made, form_flow}
+use Rattle.ur_typing.proofs.Replies.{refused_exit}
+use Rattle.ur_typing.proofs.markup.form_of.Goals as goal
+
+pub returns : goal.returns
+returns c = form_made c.args.ts.now c.in_ok-flow.field-0 c.in_ok-flow.ensures
+
+pub returns-in_err-flow : goal.returns-in_err-flow
+returns-in_err-flow c = refused_exit c.from_residual.result c.in_err-flow.field-0.0 c.from_residual.ensures.1 (form_flow c.args.ts.now) c.in_err-flow.ensures

@@ -1,0 +1,6 @@
+pub mod Answering
+pub mod Fields
+pub mod Laws
+pub mod Parts
+pub mod Saying
+pub mod Wanting

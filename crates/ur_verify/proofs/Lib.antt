@@ -1,0 +1,5 @@
+pub mod Inferring
+pub mod Once
+pub mod Pairs
+pub mod Rows
+pub mod Sizes

@@ -1,0 +1,4 @@
+pub mod Laws
+pub mod Scope
+pub mod Terms
+pub mod Verifying

@@ -1,0 +1,80 @@
+//! Functions, queries, changes and tables that fit.
+ghost use Rattle.std.specs.Prelude.{◌≡◌, ◌↔◌, IsTrue, IsUtf8, All};
+ghost use Rattle.ur_sql.specs.Typing.{QueryFits, ChangeFits};
+ghost use Rattle.ur_terms.specs.Types.{FitsFunction};
+ghost use Rattle.ur_code.specs.Fits.{signature};
+ghost use Rattle.ur_typing.specs.Answering.{Answers};
+
+use crate::environment::Environment;
+use crate::infer::type_of;
+use std::alloc::Global;
+use std::str;
+use ur_code::Code;
+use ur_fits::{change_fits, query_fits};
+use ur_terms::Function;
+use ur_types::same_type;
+use ur_typing::{Untyped, mismatch, no_type};
+use ur_values::TableShape;
+
+/// A function's body has its result's type.
+fn function_fits(alloc: Global, code: &Code, function: &Function) -> Result<(), Untyped>
+    ensures { Answers (λ u. FitsFunction (signature code.now) function.now) result }
+{
+    let env = Environment::Parameters(function.params.as_slice());
+    let found = type_of(alloc, code, &env, &function.body)?;
+    if same_type(&found, &function.result) {
+        return Ok(());
+    }
+    Err(Untyped::Misfit(mismatch(alloc, code, &found, &function.result)?))
+}
+
+pub fn functions_fit(alloc: Global, code: &Code) -> Result<(), Untyped>
+    ensures { Answers (λ u. All (FitsFunction (signature code.now)) code.now.functions) result }
+{
+    for function in code.functions.as_slice() {
+        function_fits(alloc, code, function)?;
+    }
+    Ok(())
+}
+
+pub fn queries_fit(alloc: Global, code: &Code) -> Result<(), Untyped>
+    ensures { Answers (λ u. All (QueryFits code.now.schema) code.now.queries) result }
+{
+    for query in code.queries.as_slice() {
+        if !query_fits(alloc, &code.schema, query)? {
+            return Err(Untyped::Misfit(no_type(alloc, b"a query of the tables")?));
+        }
+    }
+    Ok(())
+}
+
+pub fn changes_fit(alloc: Global, code: &Code) -> Result<(), Untyped>
+    ensures { Answers (λ u. All (ChangeFits code.now.schema) code.now.changes) result }
+{
+    for change in code.changes.as_slice() {
+        if !change_fits(alloc, &code.schema, change)? {
+            return Err(Untyped::Misfit(no_type(alloc, b"a change of a table")?));
+        }
+    }
+    Ok(())
+}
+
+fn is_named(table: &TableShape) -> bool
+    ensures { IsTrue result ↔ IsUtf8 table.now.name }
+{
+    match str::from_utf8(table.name.as_slice()) {
+        Err(_) => false,
+        Ok(_) => true,
+    }
+}
+
+pub fn tables_fit(alloc: Global, code: &Code) -> Result<(), Untyped>
+    ensures { Answers (λ u. All (λ shape. IsUtf8 shape.name) code.now.schema.tables) result }
+{
+    for table in code.schema.tables.as_slice() {
+        if !is_named(table) {
+            return Err(Untyped::Misfit(no_type(alloc, b"the name of a table")?));
+        }
+    }
+    Ok(())
+}
