@@ -1,0 +1,6 @@
+pub mod Beginning
+pub mod Fitting
+pub mod Deeds
+pub mod Running
+pub mod Typing
+pub mod Examples

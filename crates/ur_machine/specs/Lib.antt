@@ -1,0 +1,4 @@
+pub mod Cookies
+pub mod Left
+pub mod UnderWay
+pub mod Sample

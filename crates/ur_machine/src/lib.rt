@@ -1,0 +1,9 @@
+//! A request's run, from its call to each query, change or draw and on from there.
+#![tactic(auto)]
+
+mod cookies;
+mod machine;
+#[cfg(test)]
+mod tests;
+
+pub use machine::Machine;

@@ -1,0 +1,9 @@
+pub mod Told
+pub mod Storable
+pub mod Calling
+pub mod Giving
+pub mod Planning
+pub mod Doing
+pub mod Asking
+pub mod Turning
+pub mod Scanning
