@@ -12,9 +12,9 @@ use Rattle.ur_syntax.specs.Names.{looked_up, or_own, seen_by, seen, same_con, me
 use Rattle.ur_rows.specs.declared.normal.Normal.{Normal}
 use Rattle.ur_rows.specs.IsNormal.{is_normal}
 use Rattle.ur_rows.specs.Normal.{Known, known_in, known_after, at_home, entry_form, variables_with, nf_with}
-use Rattle.ur_normal.specs.declared.held.Held.{Held}
+use Rattle.ur_reduce.specs.declared.held.Held.{Held}
 use Rattle.ur_normal.specs.declared.names.Entry.{Entry}
-use Rattle.ur_normal.specs.Held.{Holds}
+use Rattle.ur_reduce.specs.Held.{Holds}
 use Rattle.ur_normal.specs.Walk.{AgreesOn, Agrees, declared, known_so, home_in, IsKnown}
 use Rattle.ur_normal.proofs.Standing.{declared-last}
 

@@ -17,11 +17,11 @@ use Rattle.ur_rows.specs.IsNormal.{is_normal}
 use Rattle.ur_rows.specs.Nodes.{nodes, most_nodes}
 use Rattle.ur_rows.specs.Normal.{Known, known_in, variable, at_home, entry_form, nf_with, nf}
 use Rattle.ur_rows.proofs.InOrder.{nf_with-normal}
-use Rattle.ur_normal.specs.declared.held.Held.{Held}
-use Rattle.ur_normal.specs.declared.held.Held.TheVariants as held
+use Rattle.ur_reduce.specs.declared.held.Held.{Held}
+use Rattle.ur_reduce.specs.declared.held.Held.TheVariants as held
 use Rattle.ur_normal.specs.declared.names.Entry.{Entry}
 use Rattle.ur_normal.specs.declared.names.Scope.{Scope}
-use Rattle.ur_normal.specs.Held.{Holds}
+use Rattle.ur_reduce.specs.Held.{Holds}
 use Rattle.ur_normal.specs.Walk.{Agrees, Tells, IsForm, IsKnown, declared, names_of, known_so, home_in}
 use Rattle.ur_normal.proofs.Agreeing.{form-defined}
 use Rattle.ur_normal.proofs.Walked.{variable-holds, variable-normal}

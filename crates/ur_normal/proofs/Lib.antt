@@ -1,14 +1,7 @@
-pub mod After
-pub mod Raised
-pub mod Occurring
-pub mod Uses
-pub mod Outlining
 pub mod Standing
 pub mod Written
-pub mod Halving
-pub mod Holding
 pub mod Agreeing
-pub mod Applying
+pub mod Worded
 pub mod Naming
 pub mod Listing
 pub mod Walked

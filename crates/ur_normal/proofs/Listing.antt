@@ -10,15 +10,15 @@ use Rattle.ur_rows.specs.Nodes.{type_nodes, part_nodes, row_nodes, most_nodes}
 use Rattle.ur_rows.specs.Order.{with_part, joined}
 use Rattle.ur_rows.specs.Put.{mapped_part, mapped_row}
 use Rattle.ur_rows.proofs.PutAfter.{mapped_row-joined}
-use Rattle.ur_normal.specs.declared.held.Fields.{Fields}
-use Rattle.ur_normal.specs.declared.held.Fields.TheVariants as fields
+use Rattle.ur_reduce.specs.declared.held.Fields.{Fields}
+use Rattle.ur_reduce.specs.declared.held.Fields.TheVariants as fields
 use Rattle.ur_normal.specs.declared.fields.Listed.{Listed}
 use Rattle.ur_normal.specs.declared.fields.Listed.TheVariants as listed
-use Rattle.ur_normal.specs.Held.{TypeIs, RowIs, Outlines}
+use Rattle.ur_reduce.specs.Held.{TypeIs, RowIs, Outlines}
 use Rattle.ur_normal.specs.Listed.{ListedAs}
 use Rattle.ur_normal.specs.Walk.{placed}
-use Rattle.ur_normal.proofs.After.{joined-nodes, one-least}
-use Rattle.ur_normal.proofs.Outlining.{mapped_row-append}
+use Rattle.ur_reduce.proofs.After.{joined-nodes, one-least}
+use Rattle.ur_reduce.proofs.Outlining.{mapped_row-append}
 
 append-nodes : (r : List Part) (p : Part) → row_nodes (r ++ p ∷ []) ≡ row_nodes r + part_nodes p
 append-nodes [] p = one (part_nodes p) where

@@ -14,9 +14,10 @@ use Rattle.ur_rows.specs.declared.normal.Normal.TheVariants as normal
 use Rattle.ur_rows.specs.IsNormal.{is_normal}
 use Rattle.ur_rows.specs.Put.{as_label, raised, applied}
 use Rattle.ur_rows.specs.Normal.{Known, or_raised, known_as, label_of, map_of, xml_of, word, word_with, name_with}
-use Rattle.ur_normal.specs.declared.held.Held.{Held}
+use Rattle.ur_reduce.specs.declared.held.Held.{Held}
 use Rattle.ur_normal.specs.declared.names.Scope.{Scope}
-use Rattle.ur_normal.specs.Held.{Holds, Given}
+use Rattle.ur_reduce.specs.Held.{Holds}
+use Rattle.ur_reduce.specs.Arguments.{Given}
 use Rattle.ur_normal.specs.Walk.{AgreesOn, Tells, names_of}
 use Rattle.ur_normal.proofs.Agreeing.{seen-agrees}
 

@@ -1,5 +1,5 @@
 -- What words and names stand for.
-use Rattle.std.proofs.Common.{◌≡◌, refl, ap, sym, ◌∙◌, subst, ℕ, zero, suc, ◌+◌, ◌-◌, ◌<◌, arith, Bool, true, false, ◌⊎◌, inl, inr, if◌then◌else◌, List, [], ◌∷◌, ◌++◌, length, take, get_or, Option, Some, None, Result, IfOk, Bor}
+use Rattle.std.proofs.Common.{◌≡◌, refl, ap, sym, ◌∙◌, subst, ℕ, ◌+◌, ◌-◌, ◌<◌, arith, Bool, true, false, if◌then◌else◌, List, [], ◌∷◌, ◌++◌, length, take, get_or, Option, Some, Result, IfOk}
 use Rattle.std.proofs.lemmas.List.{take_more}
 use Rattle.ur_syntax.specs.declared.kind.Kind.{Kind}
 use Rattle.ur_syntax.specs.declared.kind.Kind.TheVariants as kind
@@ -13,15 +13,12 @@ use Rattle.ur_rows.specs.declared.normal.Part.{Part}
 use Rattle.ur_rows.specs.declared.normal.Normal.{Normal}
 use Rattle.ur_rows.specs.declared.normal.Normal.TheVariants as normal
 use Rattle.ur_rows.specs.declared.normal.Normal.TheBlock.{end_of-Normal as sole, more_of-Normal as the}
-use Rattle.ur_rows.specs.Made.{option_of, list_of, transaction_of, form_of, unit}
-use Rattle.ur_rows.specs.Put.{as_type, as_label, raised}
-use Rattle.ur_rows.specs.Normal.{as_function}
+use Rattle.ur_rows.specs.Made.{option_of, list_of, transaction_of, form_of}
+use Rattle.ur_rows.specs.Put.{as_label, raised}
 use Rattle.ur_rows.proofs.Shapes.{option-made, list-made, transaction-made, form-made, fn-made}
-use Rattle.ur_normal.specs.declared.held.Held.{Held}
-use Rattle.ur_normal.specs.declared.names.Args.{Args}
-use Rattle.ur_normal.specs.declared.names.Args.TheVariants as args
+use Rattle.ur_reduce.specs.declared.held.Held.{Held}
 use Rattle.ur_normal.specs.declared.names.Entry.{Entry}
-use Rattle.ur_normal.specs.Walk.{declared, args_of}
+use Rattle.ur_normal.specs.Walk.{declared}
 
 abbrev pub function_of : NormalType → Normal
 function_of t = normal.Fn' kind.Star tt (the (normal.Type t) sole)
@@ -42,14 +39,8 @@ of-transaction r b v e f k = subst (λ z. IfOk r (λ n. n ≡ function_of z)) (a
 pub form-empty : (r : List Part) → r ≡ [] → normal.Type (ty.Form r) ≡ normal.Type (form_of [])
 form-empty r e = ap (λ z. normal.Type (ty.Form z)) e ∙ ap (λ z. normal.Type z) (form-made [])
 
-pub body-type : (f c g : Normal) (k : Kind) → f ≡ normal.Fn k c → g ≡ c → as_function f ≡ as_type g
-body-type f c g k e h = ap as_function (e ∙ fn-made k c) ∙ ap as_type (sym h)
-
 pub function-label : (by : ℕ) (n : Normal) (k : Kind) (c : Normal) (l : List ℕ) → n ≡ normal.Fn k c → l ≡ [] → label.Literal l ≡ as_label (raised by n)
 function-label by n k c l e f = ap label.Literal f ∙ sym (ap (λ z. as_label (raised by z)) (e ∙ fn-made k c))
-
-pub function-no_type : (n : Normal) (k : Kind) (c : Normal) → n ≡ normal.Fn k c → as_type n ≡ unit
-function-no_type n k c e = ap as_type (e ∙ fn-made k c)
 
 -- ---- names
 
@@ -81,11 +72,3 @@ found-here k xs n i x all b a h l e f g = sym (a ∙ looked-step k xs n i x h l 
 pub passed-here : (k : ConName) (xs : List Entry) (n i : ℕ) (x : Entry) (all : Option (ℕ × Held)) (b : Bool) → all ≡ looked_up k (declared (take (n - i) xs) []) → i < n → n ≡ length xs →
     x ≡ get_or xs (n - 1 - i) x → b ≡ same_con k x.name → b ≡ false → all ≡ looked_up k (declared (take (n - (i + 1)) xs) [])
 passed-here k xs n i x all b a h l e f g = a ∙ looked-step k xs n i x h l e ∙ ap (λ z. if z then Some (0, x.held) else looked_up k (declared (take (n - (i + 1)) xs) [])) (sym f ∙ g)
-
-pub fewer-args : (given : Args) (x : Bor Held) (r : Bor Args) → given ≡ args.More x r → length (args_of r.now) < length (args_of given)
-fewer-args given x r i = subst (λ z. length (args_of r.now) < length (args_of z)) (sym i) (go (length (args_of r.now))) where
-  go : (n : ℕ) → n < suc n
-  go n = omega arith
-
-pub below : (m n t : ℕ) → n ≡ t → m < n → m < t
-below m n t e h = omega arith

@@ -31,18 +31,19 @@ use Rattle.ur_rows.specs.Order.{joined}
 use Rattle.ur_rows.specs.Put.{as_type, as_row}
 use Rattle.ur_rows.specs.Normal.{Known, label_of, variable, within, with_argument, name_with, known_as, nf_with, nf_field}
 use Rattle.ur_rows.proofs.InOrder.{nf_with-normal}
-use Rattle.ur_normal.specs.declared.held.Held.{Held}
-use Rattle.ur_normal.specs.declared.held.Held.TheVariants as held
-use Rattle.ur_normal.specs.declared.held.Fields.{Fields}
+use Rattle.ur_reduce.specs.declared.held.Held.{Held}
+use Rattle.ur_reduce.specs.declared.held.Held.TheVariants as held
+use Rattle.ur_reduce.specs.declared.held.Fields.{Fields}
 use Rattle.ur_normal.specs.declared.fields.Listed.{Listed}
 use Rattle.ur_normal.specs.declared.fields.Listed.TheVariants as listed
 use Rattle.ur_normal.specs.declared.names.Names.{Names}
 use Rattle.ur_normal.specs.declared.names.Scope.{Scope}
-use Rattle.ur_normal.specs.declared.names.Args.{Args}
-use Rattle.ur_normal.specs.declared.names.Args.TheVariants as args
-use Rattle.ur_normal.specs.Held.{Holds, TypeIs, RowIs, Given}
+use Rattle.ur_reduce.specs.declared.given.Args.{Args}
+use Rattle.ur_reduce.specs.declared.given.Args.TheVariants as args
+use Rattle.ur_reduce.specs.Held.{Holds, TypeIs, RowIs}
+use Rattle.ur_reduce.specs.Arguments.{Given, args_of}
 use Rattle.ur_normal.specs.Listed.{ListedAs}
-use Rattle.ur_normal.specs.Walk.{Agrees, Tells, IsForm, args_of, names_of, placed, parts_of, record_part, record_parts_of}
+use Rattle.ur_normal.specs.Walk.{Agrees, Tells, IsForm, names_of, placed, parts_of, record_part, record_parts_of}
 use Rattle.ur_normal.proofs.Listing.{placed-joined, listed-step}
 use Rattle.ur_normal.proofs.Written.{lambda-made, nf-given, nf-arrow, nf-concat, nf-app, nf-dollar, nf-row, nf-record}
 

@@ -1,5 +1,2 @@
-pub mod Mapping
-pub mod Occurs
-pub mod Held
 pub mod Listed
 pub mod Walk

@@ -1,5 +1,5 @@
 -- Fields in written order, with their nodes counted.
-use Rattle.std.specs.Prelude.{◌≡◌, ℕ, ◌+◌, ◌≤◌, List}
+use Rattle.std.specs.Prelude.{◌≡◌, ◌+◌, ◌≤◌, List}
 use Rattle.ur_rows.specs.declared.normal.Part.{Part}
 use Rattle.ur_rows.specs.Made.{unit}
 use Rattle.ur_rows.specs.Nodes.{row_nodes, most_nodes}

@@ -13,10 +13,9 @@ use Rattle.ur_rows.specs.declared.normal.Normal.TheVariants as normal
 use Rattle.ur_rows.specs.IsNormal.{is_normal}
 use Rattle.ur_rows.specs.Made.{option_of, list_of, transaction_of, form_of, field, unit}
 use Rattle.ur_rows.specs.Order.{with_part}
-use Rattle.ur_rows.specs.Put.{as_type, as_row}
+use Rattle.ur_rows.specs.Put.{as_type}
 use Rattle.ur_rows.specs.Normal.{Known, known_in, label_of, nf_with, nf_field, type_function}
-use Rattle.ur_normal.specs.declared.held.Held.{Held}
-use Rattle.ur_normal.specs.declared.held.Fields.{Fields}
+use Rattle.ur_reduce.specs.declared.held.Held.{Held}
 use Rattle.ur_normal.specs.declared.names.Entry.{Entry}
 use Rattle.ur_normal.specs.declared.names.Names.{Names}
 use Rattle.ur_normal.specs.declared.names.Names.TheVariants as names
@@ -24,9 +23,8 @@ use Rattle.ur_normal.specs.declared.names.Key.{Key}
 use Rattle.ur_normal.specs.declared.names.Key.TheVariants as key
 use Rattle.ur_normal.specs.declared.names.Found.{Found}
 use Rattle.ur_normal.specs.declared.names.Scope.{Scope}
-use Rattle.ur_normal.specs.declared.names.Args.{Args}
-use Rattle.ur_normal.specs.declared.names.Args.TheVariants as args
-use Rattle.ur_normal.specs.Held.{Holds, RowIs, Given}
+use Rattle.ur_reduce.specs.Held.{Holds}
+use Rattle.ur_reduce.specs.Arguments.{Given}
 
 -- names of the environment in order of binding, over those before them
 abbrev pub declared : List Entry → List (ConName × (ℕ × Held)) → List (ConName × (ℕ × Held))
@@ -36,10 +34,6 @@ declared (e ∷ entries) known = declared entries ((e.name, (0, e.held)) ∷ kno
 abbrev pub names_of : Names → List (ConName × (ℕ × Held))
 names_of (names.Declared entries) = declared entries.now []
 names_of (names.Bound' x d h _ rest) = (own x.now, (d, h.now)) ∷ names_of rest
-
-abbrev pub args_of : Args → List Held
-args_of args.Empty = []
-args_of (args.More' a _ rest) = a.now ∷ args_of rest
 
 abbrev pub key_of : Key → ConName
 key_of (key.Own x) = own x.now

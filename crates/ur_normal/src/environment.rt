@@ -5,15 +5,15 @@ ghost use Rattle.ur_syntax.specs.declared.con.ConName.{ConName as GhostName};
 ghost use Rattle.ur_rows.specs.declared.normal.Normal.{Normal as GhostNormal};
 ghost use Rattle.ur_rows.specs.Nodes.{nodes, most_nodes};
 ghost use Rattle.ur_rows.specs.Normal.{nf, entry_form, variables_with};
-ghost use Rattle.ur_normal.specs.Held.{Holds};
+ghost use Rattle.ur_reduce.specs.Held.{Holds};
 ghost use Rattle.ur_normal.specs.Walk.{Agrees, IsKnown, declared, known_so, home_in};
 
-use crate::held::Held;
-use crate::names::{Args, Entry, Names, Scope};
+use crate::names::{Entry, Names, Scope};
 use crate::walk::walk;
 use crate::words::variable;
 use std::alloc::Global;
 use ur_base::{List, Memory, Refusal, Span, Stop, Text};
+use ur_reduce::{Args, Held};
 use ur_rows::{Normal, NormalType, Var, copy_text};
 use ur_syntax::{Con, ConEntry, ConEnv, ConMeaning, ConName};
 

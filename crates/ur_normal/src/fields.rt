@@ -5,13 +5,12 @@ ghost use Rattle.ur_rows.specs.declared.normal.Part.{Part as GhostPart};
 ghost use Rattle.ur_rows.specs.Made.{field, unit};
 ghost use Rattle.ur_rows.specs.Nodes.{type_nodes};
 ghost use Rattle.ur_rows.specs.Order.{joined};
-ghost use Rattle.ur_normal.specs.Held.{TypeIs, RowIs};
+ghost use Rattle.ur_reduce.specs.Held.{TypeIs, RowIs};
 ghost use Rattle.ur_normal.specs.Listed.{ListedAs};
 
-use crate::held::{Fields, outline};
-use crate::place::merged;
 use std::alloc::Global;
 use ur_base::{List, Memory};
+use ur_reduce::{Fields, merged, outline};
 use ur_rows::{Label, NormalType, Part, boxed, left_of_type, unit};
 
 /// Fields in written order with the number of nodes that they leave. Where they have too many, any types may stand in place

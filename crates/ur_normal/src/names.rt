@@ -1,10 +1,10 @@
-//! The names that a constructor may use, and the arguments that it is applied to.
+//! The names that a constructor may use.
 ghost use Rattle.std.specs.Prelude.{◌≡◌, Some, []};
 ghost use Rattle.ur_syntax.specs.Names.{own, same_module, same_con, looked_up, seen};
 ghost use Rattle.ur_normal.specs.Walk.{declared, names_of, key_of, found_as};
 
-use crate::held::Held;
 use ur_base::Text;
+use ur_reduce::Held;
 use ur_syntax::ConName;
 
 /// A name of the environment with what it stands for.
@@ -28,13 +28,6 @@ pub struct Scope<'a> {
     pub home: &'a Text,
     pub depth: u32,
     pub names: &'a Names<'a>,
-}
-
-/// The arguments of a constructor, the first one first.
-#[derive(Clone, Copy)]
-pub enum Args<'a> {
-    Empty,
-    More(&'a Held, &'a Args<'a>),
 }
 
 /// A name as it is written: `x` or `M.x`.

@@ -9,18 +9,19 @@ ghost use Rattle.ur_rows.specs.declared.normal.Normal.TheBlock.{end_of-Normal as
 ghost use Rattle.ur_rows.specs.declared.normal.Part.{Part as GhostPart};
 ghost use Rattle.ur_rows.specs.Put.{as_type, as_row};
 ghost use Rattle.ur_rows.specs.Normal.{Known as GhostKnown, with_argument, nf_with, nf_field};
-ghost use Rattle.ur_normal.specs.Held.{Means, Holds, TypeIs, RowIs, Given};
+ghost use Rattle.ur_reduce.specs.Held.{Means, Holds, TypeIs, RowIs};
+ghost use Rattle.ur_reduce.specs.Arguments.{Given, args_of};
 ghost use Rattle.ur_normal.specs.Listed.{ListedAs};
-ghost use Rattle.ur_normal.specs.Walk.{Tells, IsForm, args_of, parts_of, record_part, record_parts_of};
+ghost use Rattle.ur_normal.specs.Walk.{Tells, IsForm, parts_of, record_part, record_parts_of};
 
 use crate::fields::{Listed, one_more, row_of_listed};
-use crate::held::{
-    Fields, Held, Large, arrow, fields_of, measured, record_of, row_of, type_of, union,
-};
-use crate::names::{Args, Key, Names, Scope};
+use crate::names::{Key, Names, Scope};
 use crate::words::{label, named, variable};
 use std::alloc::Global;
 use ur_base::{List, Memory, Text};
+use ur_reduce::{
+    Args, Fields, Held, Large, arrow, fields_of, measured, record_of, row_of, type_of, union,
+};
 use ur_rows::{Label, Normal, NormalType, Var, boxed_normal, copy_kind, copy_text, unit};
 use ur_syntax::{CField, Con, ConForm, Kind, RecordField};
 

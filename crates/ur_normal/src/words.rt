@@ -9,15 +9,16 @@ ghost use Rattle.ur_rows.specs.declared.normal.Var.TheVariants as var;
 ghost use Rattle.ur_rows.specs.Put.{as_row, as_label, raised};
 ghost use Rattle.ur_rows.specs.Normal.{Known as GhostKnown, known_as, label_of, map_of, xml_of, word, word_with, name_with, type_function, variable};
 ghost use Rattle.ur_rows.specs.Made.{option_of, list_of, transaction_of};
-ghost use Rattle.ur_normal.specs.Held.{Holds, RowIs, Given};
-ghost use Rattle.ur_normal.specs.Walk.{Tells, args_of, key_of, later_word};
+ghost use Rattle.ur_reduce.specs.Held.{Holds, RowIs};
+ghost use Rattle.ur_reduce.specs.Arguments.{Given, args_of};
+ghost use Rattle.ur_normal.specs.Walk.{Tells, key_of, later_word};
 
-use crate::given::applied;
-use crate::held::{Fields, Held, Large, form_of, measured, raised_held, row_of, sized};
-use crate::maps::mapped;
-use crate::names::{Args, Key, Scope, seen};
+use crate::names::{Key, Scope, seen};
 use std::alloc::Global;
 use ur_base::{List, Memory, Text};
+use ur_reduce::{
+    Args, Fields, Held, Large, applied, form_of, mapped, measured, raised_held, row_of, sized,
+};
 use ur_rows::{
     Label, Normal, NormalType, Part, Raising, Var, boxed, boxed_normal, copy_row, copy_text, one,
     put_label, unit,

@@ -1,6 +1,6 @@
 use Rattle.std.proofs.Common.{subst, sym, ◌≤◌}
 use Rattle.ur_rows.specs.Nodes.{nodes, most_nodes}
-use Rattle.ur_normal.proofs.Holding.{held-form, large-over}
+use Rattle.ur_reduce.proofs.Holding.{held-form, large-over}
 use Rattle.ur_normal.proofs.environment.normal.Goals as goal
 
 pub returns-in-Form-clause-form : goal.returns-in-Form-clause-form

@@ -1,5 +1,5 @@
 use Rattle.std.proofs.Common.{subst}
-use Rattle.ur_normal.specs.Held.{TypeIs}
+use Rattle.ur_reduce.specs.Held.{TypeIs}
 use Rattle.ur_normal.specs.Listed.{ListedAs}
 use Rattle.ur_normal.proofs.Listing.{listed-fits, listed-over, listed-none, listed-large}
 use Rattle.ur_normal.proofs.fields.one_more.Goals as goal

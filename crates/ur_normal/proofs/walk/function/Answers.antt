@@ -2,8 +2,8 @@ use Rattle.std.proofs.Common.{ap₂, subst, ◌∙◌}
 use Rattle.std.proofs.lemmas.Result.{IfOk-weaker}
 use Rattle.ur_rows.specs.declared.normal.Normal.TheVariants as normal
 use Rattle.ur_rows.proofs.Shapes.{fn-made}
-use Rattle.ur_normal.specs.Held.{Holds}
-use Rattle.ur_normal.proofs.Holding.{held-form}
+use Rattle.ur_reduce.specs.Held.{Holds}
+use Rattle.ur_reduce.proofs.Holding.{held-form}
 use Rattle.ur_normal.proofs.walk.function.Goals as goal
 
 pub returns-in_ok-boxed_normal-in-Form : goal.returns-in_ok-boxed_normal-in-Form

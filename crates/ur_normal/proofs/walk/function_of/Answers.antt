@@ -1,4 +1,4 @@
-use Rattle.ur_normal.proofs.Holding.{function-large}
+use Rattle.ur_reduce.proofs.Holding.{function-large}
 use Rattle.ur_normal.proofs.walk.function_of.Goals as goal
 
 pub returns-in-TypeFunction : goal.returns-in-TypeFunction

@@ -1,5 +1,5 @@
 use Rattle.std.proofs.Common.{sym, ◌∙◌}
-use Rattle.ur_normal.proofs.Holding.{held-form}
+use Rattle.ur_reduce.proofs.Holding.{held-form}
 use Rattle.ur_normal.proofs.Standing.{function-label}
 use Rattle.ur_normal.proofs.words.label_in.Goals as goal
 

@@ -1,4 +1,5 @@
-use Rattle.ur_normal.specs.Walk.{args_of, key_of}
+use Rattle.ur_reduce.specs.Arguments.{args_of}
+use Rattle.ur_normal.specs.Walk.{key_of}
 use Rattle.ur_normal.proofs.Naming.{named-found, named-none}
 use Rattle.ur_normal.proofs.words.named.Goals as goal
 

@@ -1,5 +1,5 @@
-use Rattle.ur_normal.specs.Walk.{args_of}
 use Rattle.ur_rows.specs.Normal.{map_of, xml_of}
+use Rattle.ur_reduce.specs.Arguments.{args_of}
 use Rattle.ur_normal.proofs.Naming.{word-map, word-xml, word-walks}
 use Rattle.ur_normal.proofs.words.word_with.Goals as goal
 

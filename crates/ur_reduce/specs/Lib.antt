@@ -1,0 +1,4 @@
+pub mod Mapping
+pub mod Occurs
+pub mod Held
+pub mod Arguments
