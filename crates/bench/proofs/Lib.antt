@@ -1,3 +1,4 @@
+mod Counts
 mod Pairs
 mod Spans
 mod States

@@ -3,6 +3,7 @@
 #![tactic(auto)]
 
 mod answers;
+mod calls;
 mod changes;
 mod congruence;
 mod keeper;
@@ -81,6 +82,7 @@ fn bench(rt: &HostRuntime) -> Result<(), BenchEnd> {
             request(rt, parts)
         }
         "pipelined" => pipelined(rt, words.next()),
+        "calls" => count_down(rt, words.next()),
         _ => Err(BenchEnd::Usage),
     }
 }
@@ -95,6 +97,15 @@ fn pipelined(rt: &HostRuntime, word: Option<String>) -> Result<(), BenchEnd> {
     let requests = size(word, pieces::MOST)?;
     let cut = pieces::cut_pipelined(rt.alloc(), requests)?;
     println!(rt; "pipelined {cut}")?;
+    Ok(())
+}
+
+fn count_down(rt: &HostRuntime, word: Option<String>) -> Result<(), BenchEnd> {
+    let from = size(word, calls::MOST_CALLS)?;
+    match calls::count_down(rt.alloc(), from)? {
+        Some(calls) => println!(rt; "calls {calls}")?,
+        None => println!(rt; "no page")?,
+    }
     Ok(())
 }
 
