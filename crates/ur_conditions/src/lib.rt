@@ -11,8 +11,6 @@ pub mod pair;
 mod pairing;
 pub mod side;
 mod terms;
-#[cfg(test)]
-mod tests;
 
 pub use cases::disjuncts_of_change;
 pub use counting::{has_few_cases, has_few_disjuncts, pairs};

@@ -4,8 +4,6 @@
 mod comparing;
 mod reading;
 mod site;
-#[cfg(test)]
-mod tests;
 mod whole;
 
 pub use site::patterns_of;

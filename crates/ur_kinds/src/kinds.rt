@@ -57,6 +57,7 @@ fn write_kind(out: &mut Text, k: &Kind) -> Result<(), Memory>
     }
 }
 
+/// A kind as a refusal tells it.
 pub fn kind_text(alloc: Global, k: &Kind) -> Result<Text, Memory>
     ensures { IfOk result (λ text. text ≡ kind_text k.now) }
 {

@@ -7,10 +7,9 @@ mod kinds;
 mod laws;
 mod name_walk;
 mod names;
-#[cfg(test)]
-mod tests;
 mod walk;
 mod words;
 
 pub use answer::{has_kind, kind_of};
+pub use kinds::kind_text;
 pub use laws::{kinded_is_known, one_kind};

@@ -6,6 +6,3 @@ mod types;
 
 pub use functions::listing;
 pub use types::type_text;
-
-#[cfg(test)]
-mod tests;

@@ -3,8 +3,6 @@
 
 mod code;
 mod quotes;
-#[cfg(test)]
-mod tests;
 mod tokens;
 
 pub use code::{MAX_BRACKETS, antiquote, attribute, quoted, shown};

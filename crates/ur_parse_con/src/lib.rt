@@ -8,8 +8,6 @@ mod kind;
 mod names;
 mod nodes;
 mod param;
-#[cfg(test)]
-mod tests;
 mod whole;
 mod words;
 

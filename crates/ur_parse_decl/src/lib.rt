@@ -5,8 +5,6 @@ mod columns;
 mod datatype;
 mod keys;
 mod table;
-#[cfg(test)]
-mod tests;
 
 pub use datatype::read_datatype;
 pub use table::read_table;

@@ -4,8 +4,6 @@
 mod operator;
 mod param;
 mod removed;
-#[cfg(test)]
-mod tests;
 
 pub use operator::{Level, Sign, comparison_at, sign_at};
 pub use param::read_param;

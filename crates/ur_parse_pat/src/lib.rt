@@ -5,8 +5,6 @@ mod behind;
 mod binder;
 mod capital;
 mod pattern;
-#[cfg(test)]
-mod tests;
 
 pub use binder::{read_binder, sees_binder};
 pub use pattern::read_pat;

@@ -3,8 +3,6 @@
 
 mod decls;
 mod signature;
-#[cfg(test)]
-mod tests;
 mod vals;
 
 pub use decls::{read_con_decl, read_cookie, read_sequence, read_type_decl};

@@ -7,8 +7,6 @@ mod ends;
 mod exps;
 mod made;
 mod signs;
-#[cfg(test)]
-mod tests;
 
 pub use columns::column as read_column;
 pub use ends::{comma_or, finished, sees_operator, word_or};

@@ -4,7 +4,5 @@
 mod attrs;
 mod parts;
 mod tags;
-#[cfg(test)]
-mod tests;
 
 pub use parts::literal as read_literal;

@@ -4,8 +4,6 @@
 mod law;
 mod masking;
 pub mod patterns;
-#[cfg(test)]
-mod tests;
 
 pub use law::{patterns_keep_answers, patterns_read_arguments};
 pub use patterns::Patterns;

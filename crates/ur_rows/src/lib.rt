@@ -9,8 +9,6 @@ mod limit;
 mod normal;
 mod put;
 mod same;
-#[cfg(test)]
-mod tests;
 mod union;
 
 pub use apply::{

@@ -38,11 +38,12 @@ pub fn plan(
     ensures fits { IfOk result (λ p. OnChanges p (All (OfNewRow (FitsShape shape.now)))) }
     ensures sizes { All IsStorable args.now → All (λ r. All IsStorable r.row) rows.now → AreStorableConstants change.now.action → IfOk result (λ p. OnChanges p (All (OfNewRow (All IsStorable)))) }
 {
-    planned(alloc, &change.action, args, rows, &shape.keys)
+    plan_action(alloc, &change.action, args, rows, &shape.keys)
 }
 
-/// What a change of these rows comes to, where two rows may not agree on a key.
-pub fn planned(
+/// What an action on these rows comes to, where two rows may not agree on a key, whatever the types: `plan` says more
+/// of typed changes.
+pub fn plan_action(
     alloc: Global,
     action: &Action,
     args: &[Value],

@@ -13,6 +13,3 @@ pub use pages::{show, show_error, show_text};
 pub use paths::{path, route, routes_back};
 pub use routes::{FormField, Handlers, Param, Route};
 pub use segments::{segment, segments_back, unsegment};
-
-#[cfg(test)]
-mod tests;

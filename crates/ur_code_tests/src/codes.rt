@@ -1,0 +1,34 @@
+//! Code made by hand.
+use std::alloc::Global;
+use ur_base::{List, Memory};
+use ur_code::Code;
+use ur_tags::Handlers;
+use ur_terms::{Function, Term};
+use ur_values::Schema;
+
+/// Code that has functions alone.
+pub fn code_of(alloc: Global, functions: List<Function>) -> Code {
+    Code {
+        schema: Schema {
+            tables: List::new(alloc),
+            sequences: List::new(alloc),
+        },
+        handlers: Handlers {
+            routes: List::new(alloc),
+        },
+        targets: List::new(alloc),
+        names: List::new(alloc),
+        variants: List::new(alloc),
+        cookies: List::new(alloc),
+        functions,
+        queries: List::new(alloc),
+        changes: List::new(alloc),
+    }
+}
+
+/// A list of one term.
+pub fn one(alloc: Global, term: Term) -> Result<List<Term>, Memory> {
+    let mut terms = List::new(alloc);
+    terms.push(term)?;
+    Ok(terms)
+}
