@@ -10,8 +10,6 @@ mod names;
 mod refusal;
 mod room;
 mod steps;
-#[cfg(test)]
-mod tests;
 
 pub use boxed::Boxed;
 pub use fault_plan::FaultPlan;

@@ -1,4 +1,4 @@
-//! Tests of pages and of first-order code.
+//! Tests of pages, of first-order code and of operations.
 #![tactic(auto)]
 
 #[cfg(test)]
@@ -7,6 +7,8 @@ mod codes;
 mod effects;
 #[cfg(test)]
 mod listings;
+#[cfg(test)]
+mod operating;
 #[cfg(test)]
 mod tags;
 #[cfg(test)]

@@ -8,8 +8,6 @@ mod operations;
 mod run;
 mod stack;
 mod steps;
-#[cfg(test)]
-mod tests;
 mod walk;
 
 pub use control::{Control, Found, Matched, Next, Pause, Performed};

@@ -5,8 +5,6 @@ mod law;
 mod number;
 mod parsed;
 mod place;
-#[cfg(test)]
-mod tests;
 
 pub use law::one_tree_of_lines;
 pub use number::number_at;

@@ -1,8 +1,10 @@
-//! Tests of what changes do to cached answers.
+//! Tests of closures of equations, and of what changes do to cached answers.
 #![tactic(auto)]
 
 #[cfg(test)]
 mod classes;
+#[cfg(test)]
+mod closures;
 #[cfg(test)]
 mod conditions;
 #[cfg(test)]

@@ -6,8 +6,6 @@ mod real;
 mod session;
 mod shelf;
 mod sink;
-#[cfg(test)]
-mod tests;
 mod whole;
 mod wire;
 

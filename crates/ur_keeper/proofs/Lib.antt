@@ -4,4 +4,3 @@ pub mod Drafts
 pub mod Edits
 pub mod Keeping
 pub mod Rising
-pub mod Trials

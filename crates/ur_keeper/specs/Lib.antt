@@ -3,5 +3,4 @@ pub mod Keeper
 pub mod Memory
 pub mod Sequences
 pub mod Tables
-pub mod Trials
 pub mod Versions

@@ -12,6 +12,3 @@ mod table;
 pub use adding::add_row;
 pub use keeper::{Attached, Keeper, KeeperEnd};
 pub use memory::MemoryKeeper;
-
-#[cfg(test)]
-mod tests;

@@ -8,8 +8,6 @@ mod mode;
 mod pieces;
 mod scan;
 mod spelling;
-#[cfg(test)]
-mod tests;
 mod token;
 mod tokens;
 

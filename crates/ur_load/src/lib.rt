@@ -16,6 +16,3 @@ pub use loading::load_program;
 pub use program::Program;
 pub use source::{Source, Sources};
 pub use whole::{not_both, one_program};
-
-#[cfg(test)]
-mod tests;

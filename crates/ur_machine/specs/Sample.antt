@@ -1,4 +1,4 @@
--- A small program, which the tests run.
+-- A small program.
 use Rattle.std.specs.Prelude.{true, false, [], ◌∷◌, codes}
 use Rattle.ur_types.specs.declared.types.ValueType.TheVariants as ty
 use Rattle.ur_values.specs.declared.value.Call.{Call}

@@ -3,7 +3,5 @@
 
 mod cookies;
 mod machine;
-#[cfg(test)]
-mod tests;
 
 pub use machine::Machine;

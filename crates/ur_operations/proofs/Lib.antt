@@ -3,4 +3,3 @@ pub mod Arguments
 pub mod Doing
 pub mod Fields
 pub mod Nodes
-pub mod Examples

@@ -12,8 +12,6 @@ mod matching;
 mod operands;
 mod operators;
 mod records;
-#[cfg(test)]
-mod tests;
 mod texts;
 
 pub use built::{error_body, is_small};

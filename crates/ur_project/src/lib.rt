@@ -5,8 +5,6 @@ mod lines;
 mod modules;
 mod pieces;
 mod project;
-#[cfg(test)]
-mod tests;
 
 pub use project::{
     MAX_BYTES, MAX_MODULES, one_bad_line, one_name_is_a_project, one_project, read_project,

@@ -18,8 +18,3 @@ pub use links::{accepted_are_plain, links_lead_back};
 pub use outcome::Outcome;
 pub use running::run;
 pub use ur_load::Program;
-
-#[cfg(test)]
-mod run_tests;
-#[cfg(test)]
-mod tests;

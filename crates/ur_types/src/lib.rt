@@ -8,6 +8,3 @@ mod types;
 pub use copy::copy_type;
 pub use same::{same_type, same_types};
 pub use types::{TypeField, ValueType};
-
-#[cfg(test)]
-mod tests;

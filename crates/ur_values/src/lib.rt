@@ -17,6 +17,3 @@ pub use copy::copy_values;
 pub use same::same_values;
 pub use schema::{ColumnKind, Numbered, Schema, TableShape};
 pub use value::{Call, FieldKind, Node, Row, Tag, Value};
-
-#[cfg(test)]
-mod tests;

@@ -4,9 +4,6 @@ ghost use Rattle.std.specs.Io.KnownBytes.{Consumes, IsAtEnd};
 ghost use Rattle.ur_base.specs.Told.{WhereTold};
 ghost use Rattle.ur_io.specs.Files.{fetched, IsWithin};
 
-#[cfg(test)]
-mod tests;
-
 use crate::{FetchEnd, Fetched, Shelf};
 use std::alloc::Global;
 use std::fs;

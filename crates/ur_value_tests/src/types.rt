@@ -1,0 +1,45 @@
+//! Copies and comparisons of types.
+use std::alloc::Global;
+use ur_base::{Boxed, List, Memory, Name};
+use ur_types::{TypeField, ValueType, copy_type, same_type};
+
+/// So many lists that each hold the one before, the first of this type.
+fn tall(alloc: Global, lists: u32, inner: ValueType) -> Result<ValueType, Memory> {
+    let mut of = inner;
+    for _ in 0..lists {
+        of = ValueType::Many(Boxed::new(alloc, of)?);
+    }
+    Ok(of)
+}
+
+/// A record with a form in it.
+fn record(alloc: Global) -> Result<ValueType, Memory> {
+    let mut inner = List::new(alloc);
+    inner.push(TypeField {
+        name: Name(1),
+        of: ValueType::Str,
+    })?;
+    let mut fields = List::new(alloc);
+    fields.push(TypeField {
+        name: Name(0),
+        of: ValueType::Form(inner),
+    })?;
+    Ok(ValueType::Record(fields))
+}
+
+fn has_copy(alloc: Global, of: &ValueType) -> Result<bool, Memory> {
+    let copy = copy_type(alloc, of)?;
+    Ok(same_type(of, &copy))
+}
+
+fn is_copied(alloc: Global, lists: u32) -> Result<bool, Memory> {
+    let inner = record(alloc)?;
+    let of = tall(alloc, lists, inner)?;
+    has_copy(alloc, &of)
+}
+
+#[test]
+fn a_type_as_high_as_a_tree_of_the_source(rt: HostRuntime) -> Result<(), Memory> {
+    assert!(rt; is_copied(rt.alloc(), 4093)?);
+    Ok(())
+}
