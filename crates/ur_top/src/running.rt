@@ -30,8 +30,6 @@ pub fn run<S: Shelf, W: Wire, O: Sink>(
     ensures serves { WhereTold (S.told shelf.old) (λ files. ForProject (replayed (map string_bytes words.now))
         (λ project. (program : Program) → Accepts files project program
         → WhereTold (W.told wire.old) (λ t. Serves program t result.sessions (W.told wire.new)))) }
-    // A project has at most one program.
-    ensures one_program { (files : List ℕ → Option (List ℕ)) (project : List ℕ) (p q : Program) → Accepts files project p → Accepts files project q → p ≡ q }
     // Words that read as no command.
     ensures usage_only { result.status ≡ 1 → replayed (map string_bytes words.now) ≡ None }
     ensures usage { replayed (map string_bytes words.now) ≡ None → Contains (1 ∷ 5 ∷ 8 ∷ []) result.status }

@@ -6,9 +6,6 @@ use Rattle.ur_top.specs.Causes.{Standing, Reports}
 use Rattle.ur_top.specs.Prints.{Prints}
 use Rattle.ur_top.proofs.running.run.Goals as goal
 
-pub returns-clause-one_program : goal.returns-clause-one_program
-returns-clause-one_program g c = loaded.one_program
-
 pub returns-clause-usage_only : goal.returns-clause-usage_only
 returns-clause-usage_only g c =
     let old : Standing = record { told = g.W.Wire.told c.args.wire.now; faults = g.W.Wire.faults c.args.wire.now; current = g.W.Wire.is_current c.args.wire.now } in
