@@ -1,8 +1,4 @@
 //! Queries over large tables: a join on equal columns, groups, and an order.
-ghost use Rattle.std.specs.Prelude.{◌≡◌, [], length, map, IfOk};
-ghost use Rattle.ur_values.specs.Store.{rows_of};
-ghost use Rattle.ur_sql.specs.Answer.{answer_over};
-
 use std::alloc::Global;
 use ur_base::{Boxed, List, Memory, Name};
 use ur_sql::{Aggregate, ColumnAt, Comparison, Field, OrderKey, Query, Scalar, answer};
@@ -30,9 +26,7 @@ pub fn order(alloc: Global, rows: u32) -> Result<usize, Memory> {
     answered(alloc, &query, &[table])
 }
 
-fn answered(alloc: Global, query: &Query, tables: &[List<Numbered>]) -> Result<usize, Memory>
-    ensures { IfOk result (λ count. count ≡ length (answer_over query.now [] (map rows_of tables.now))) }
-{
+fn answered(alloc: Global, query: &Query, tables: &[List<Numbered>]) -> Result<usize, Memory> {
     Ok(answer(alloc, query, &[], tables)?.len())
 }
 
@@ -102,9 +96,7 @@ fn select(alloc: Global, fields: List<Field>) -> Query {
 
 /// A table of this many rows: a number that stands in one row alone, the rows in no order of it, and one that stands
 /// in four.
-fn table(alloc: Global, rows: u32) -> Result<List<Numbered>, Memory>
-    ensures { IfOk result (λ table. length table ≡ rows) }
-{
+fn table(alloc: Global, rows: u32) -> Result<List<Numbered>, Memory> {
     let mut table = List::new(alloc);
     for i in 0..rows {
         let mixed = u64::from(i).wrapping_mul(7919) % u64::from(rows);

@@ -1,6 +1,4 @@
 //! Closures of many terms: a chain of equations, pairs of classes, and powers of one symbol.
-ghost use Rattle.std.specs.Prelude.{◌≡◌, length, IfOk};
-
 use std::alloc::Global;
 use ur_base::{List, Memory};
 use ur_congruence::{Closure, Term};
@@ -79,9 +77,7 @@ fn equate_last_two(closure: &mut Closure, terms: &[Term]) -> Result<(), Memory> 
 }
 
 /// So many variables.
-fn variables(alloc: Global, closure: &mut Closure, count: u32) -> Result<List<Term>, Memory>
-    ensures { IfOk result (λ variables. length variables ≡ count) }
-{
+fn variables(alloc: Global, closure: &mut Closure, count: u32) -> Result<List<Term>, Memory> {
     let mut variables = List::new(alloc);
     for number in 0..count {
         if closure.is_full() {
