@@ -10,7 +10,6 @@ pub mod Operands
 pub mod Outcome
 pub mod PlannedRows
 pub mod Repeats
-mod Samples
 pub mod SortedGroups
 pub mod StableSort
 pub mod Stored
