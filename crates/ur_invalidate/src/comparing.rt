@@ -1,11 +1,10 @@
 //! Whether patterns are equal.
 ghost use Rattle.std.specs.Prelude.{◌≡◌};
 ghost use Rattle.std.specs.Cmp.Lexicographic.{pointwise};
-ghost use Rattle.ur_values.specs.Order.{value_eq};
 ghost use Rattle.ur_patterns.specs.Patterns.{key_eq, guard_eq, pattern_eq};
 
+use ur_patterns::same_values;
 use ur_sql::{Guard, KeyAt, Pattern};
-use ur_values::{Value, compare_values};
 
 /// Whether the two patterns are equal. Takes no memory.
 pub fn same_patterns(a: &Pattern, b: &Pattern) -> bool
@@ -79,11 +78,4 @@ fn same_guard(a: &Guard, b: &Guard) -> bool
             Guard::Is(n, y) => *m == *n && same_values(x, y),
         },
     }
-}
-
-/// Whether two ints, bools, texts or options of these are the same. Takes no memory.
-pub fn same_values(a: &Value, b: &Value) -> bool
-    ensures { result ≡ value_eq a.now b.now }
-{
-    compare_values(a, b).is_eq()
 }

@@ -1,14 +1,15 @@
 //! The pattern of a pair, read off the classes of its terms.
-ghost use Rattle.std.specs.Prelude.{◌≡◌, ◌∷◌, [], ◌++◌, not, IfOk, map, if◌then◌else◌};
+ghost use Rattle.std.specs.Prelude.{◌≡◌, ◌++◌, not, IfOk, map};
 ghost use Rattle.std.specs.List.{list_any};
 ghost use Rattle.ur_sql.specs.declared.pattern.Guard.TheVariants as guard;
 ghost use Rattle.ur_patterns.specs.Patterns.{key_by, constant_guard, guards_by};
 ghost use Rattle.ur_invalidate.specs.Reading.{clash, have_clash, have_equal_sides, are_consistent, members, constant_in, key_in, guards_at, guards_in, pattern_from};
 
-use crate::comparing::same_values;
 use std::alloc::Global;
 use ur_base::{List, Memory};
 use ur_classes::Classes;
+use ur_conditions::push_if;
+use ur_patterns::same_values;
 use ur_sql::{Guard, KeyAt, Pattern};
 use ur_values::Value;
 
@@ -121,19 +122,6 @@ fn members(alloc: Global, args: &[u32], class: u32) -> Result<List<u32>, Memory>
         found = push_if(found, class == args[number], number as u32)?;
     }
     Ok(found)
-}
-
-/// The list with one number more, if it passes.
-fn push_if(all: List<u32>, passes: bool, number: u32) -> Result<List<u32>, Memory>
-    ensures { IfOk result (λ more. more ≡ all ++ (if passes then number ∷ [] else [])) }
-{
-    let mut more = all;
-    if passes {
-        more.push(number)?;
-        Ok(more)
-    } else {
-        Ok(more)
-    }
 }
 
 /// The first constant of a class, if there is one.
