@@ -29,8 +29,7 @@ use Rattle.ur_parse_rules.specs.Ends.{sql_last, sql_operators}
 use Rattle.ur_parse_rules.specs.Language.{language}
 use Rattle.ur_parse_rules.proofs.Choice.{choice}
 use Rattle.ur_parse_rules.proofs.AllDecided.{decided}
-use Rattle.ur_parse_con.proofs.Chains.{ends_empty}
-use Rattle.ur_parse_con.proofs.Classed.{missing, stops_cons, may_not_end}
+use Rattle.ur_parse_rules.proofs.Places.{ends_empty, missing, stops_cons, may_not_end}
 use Rattle.ur_parse_code.specs.declared.quotes.Quotes.{Quotes}
 use Rattle.ur_parse_code.specs.Quotes.{Numbered, Makes, Holds}
 use Rattle.ur_parse_code.proofs.Numbering.{numbered_plain, numbered_mapped, numbered_both}

@@ -30,8 +30,7 @@ use Rattle.ur_parse_rules.proofs.Tests.{false_true, or_true}
 use Rattle.ur_parse_rules.proofs.RawCode.{code_same}
 use Rattle.ur_parse_rules.proofs.Choice.{choice}
 use Rattle.ur_parse_rules.proofs.AllDecided.{decided}
-use Rattle.ur_parse_con.proofs.Chains.{ends_empty}
-use Rattle.ur_parse_con.proofs.Classed.{missing}
+use Rattle.ur_parse_rules.proofs.Places.{ends_empty, missing}
 use Rattle.ur_parse_code.specs.Brackets.{is_code, is_plain, Closed, NotClosed, refused, unclosed}
 use Rattle.ur_parse_code.specs.Quotes.{raw_of}
 

@@ -22,8 +22,8 @@ use Rattle.ur_parse_rules.specs.Parts.{Arg, of_con, Tree}
 use Rattle.ur_parse_rules.specs.Language.{language, rules}
 use Rattle.ur_parse_rules.proofs.AllDecided.{decided}
 use Rattle.ur_parse_rules.proofs.Tests.{false_true}
-use Rattle.ur_parse_con.proofs.Chains.{ends_empty}
-use Rattle.ur_parse_con.proofs.Classed.{an_argument, single_app, single_arg, span_join}
+use Rattle.ur_parse_rules.proofs.Places.{ends_empty, span_join}
+use Rattle.ur_parse_con.proofs.Classed.{an_argument, single_app, single_arg}
 
 applied-push : (b : Span) (h : Con) (xs : List Arg) (x : Arg) → applied b h (xs ++ x ∷ []) ≡ record { span = record { file = b.file; from = b.from; to = x.span.to }; form = form.App (applied b h xs) x.con }
 applied-push b h [] x = refl

@@ -1,11 +1,10 @@
 -- Constructors by their first token.
-use Rattle.std.specs.Prelude.{◌≡◌, ◌<◌, ◌≤◌, ◌+◌, ◌||◌, ℕ, Bool, true, false, List, [], ◌∷◌, length, drop, refl}
-use Rattle.std.proofs.Common.{sym, ◌∙◌, ap, subst, arith}
+use Rattle.std.specs.Prelude.{◌≡◌, ◌≤◌, ◌+◌, ◌||◌, ℕ, Bool, true, false, List, [], drop, refl}
+use Rattle.std.proofs.Common.{sym, ◌∙◌, subst, arith}
 use Rattle.ur_base.specs.declared.refusal.Refusal.{Refusal}
 use Rattle.ur_base.specs.Stopping.{Says}
 use Rattle.ur_lex.specs.declared.token.Keyword.TheVariants as keyword
 use Rattle.ur_lex.specs.declared.token.Symbol.TheVariants as symbol
-use Rattle.ur_lex.specs.declared.token.TokenKind.{TokenKind}
 use Rattle.ur_lex.specs.declared.token.TokenKind.TheVariants as token
 use Rattle.ur_lex.specs.declared.token.Lexeme.{Lexeme}
 use Rattle.ur_lex.specs.Spelling.{Text}
@@ -33,7 +32,7 @@ use Rattle.ur_parse_rules.proofs.Choice.{choice}
 use Rattle.ur_parse_rules.proofs.AllDecided.{decided}
 use Rattle.ur_parse_rules.proofs.Tests.{false_true, or_first}
 use Rattle.ur_parse_con.specs.Names.{NoneOpens}
-use Rattle.ur_parse_con.proofs.Chains.{ends_empty}
+use Rattle.ur_parse_rules.proofs.Places.{ends_empty}
 use Rattle.ur_parse_con.proofs.Classed.{no_lambda, keys_within}
 
 -- ---- `fn x :: kind => con`, or no lambda
@@ -118,18 +117,6 @@ module _ {n : ℕ} {keys : Bool} {tokens : List Lexeme} {at next end : ℕ} wher
   pub inner_read : {mid : ℕ} {c : Con} → IsAt tokens at next (OfKind (token.Symbol symbol.LParen)) → Read language n (of_con (con places.Plain)) (drop next tokens) (drop mid tokens) c → IsAt tokens mid end (OfKind (token.Symbol symbol.RParen)) →
       Read language n (of_con (atom keys)) (drop at tokens) (drop end tokens) c
   inner_read {c = c} a h b = reads_by 6 n (omega arith) (record { v = (c, tt); span = no_span; is_span = refl; allowed = refl; builds = refl; fills = a_mark a (an_one h (a_mark b nothing)) }) (ends_empty _)
-
--- ---- places
-
-module _ {tokens : List Lexeme} where
-  pub name_moves : {i j : ℕ} {k : TokenKind} {ok : Text → Bool} {x : Text} → IsName tokens i j k ok x → Moves tokens i j
-  name_moves a = let e = a.next in let l = a.at.below in record { on = omega (arith, e); within = omega (arith, e, l) }
-
-  pub mark_moves : {i j : ℕ} {Is : Lexeme → Type 0} → IsAt tokens i j Is → Moves tokens i j
-  mark_moves a = let e = a.next in let l = a.at.below in record { on = omega (arith, e); within = omega (arith, e, l) }
-
-  pub moves_on : {i j k : ℕ} → Moves tokens i j → Moves tokens j k → Moves tokens i k
-  moves_on m o = let a = m.on in let b = o.on in record { on = omega (arith, a, b); within = o.within }
 
 -- ---- names
 

@@ -82,8 +82,3 @@ module _ {n : ℕ} {tokens : List Lexeme} {at begin end : ℕ} {left : List Kind
 
   pub chain_refused : (next : ℕ) {ref : Refusal} → Chain n tokens at begin end left k → IsAt tokens end next (OfKind (token.Symbol symbol.Arrow)) → Refused language n (of_con kind_atom) (drop next tokens) ref → Refused language n (of_con kind) (drop at tokens) ref
   chain_refused next c a h = c.leads.refused _ ((step begin a c.last).refused _ (first_refused tokens next h))
-
--- the empty rule of atoms stops before anything
-pub ends_empty : (ts : List Lexeme) → Stops (member []) ts
-ends_empty [] = tt
-ends_empty (t ∷ ts) = refl

@@ -1,49 +1,23 @@
--- Tokens that do not go on, by class, and the rule that is chosen.
-use Rattle.std.specs.Prelude.{◌≡◌, ◌<◌, ◌≤◌, ◌-◌, ℕ, Bool, true, false, ◌||◌, if◌then◌else◌, List, [], ◌∷◌, ◌++◌, length, drop, slice_get, Some, refl}
-use Rattle.std.proofs.Common.{sym, ◌∙◌, ap, subst, inl, inr, arith}
-use Rattle.std.proofs.lemmas.Option.{slice_get_cases}
-use Rattle.ur_base.specs.declared.refusal.Refusal.{Refusal}
-use Rattle.ur_base.specs.Stopping.{Says}
+-- The rule that is chosen.
+use Rattle.std.specs.Prelude.{◌≡◌, ℕ, Bool, true, false, if◌then◌else◌, List, [], ◌∷◌, drop, refl}
+use Rattle.std.proofs.Common.{◌∙◌}
 use Rattle.ur_lex.specs.declared.token.Keyword.TheVariants as keyword
 use Rattle.ur_lex.specs.declared.token.Symbol.TheVariants as symbol
-use Rattle.ur_lex.specs.declared.token.TokenKind.{TokenKind}
 use Rattle.ur_lex.specs.declared.token.TokenKind.TheVariants as token
 use Rattle.ur_lex.specs.declared.token.Lexeme.{Lexeme}
 use Rattle.ur_grammar.specs.Rules.{Stops}
-use Rattle.ur_grammar.specs.KindNumbers.{kind_number, all_kinds}
-use Rattle.ur_grammar.specs.Places.{IsAt, Other, OfKind, Moves, only, starts, span_of}
-use Rattle.ur_grammar.proofs.Inversions.{nothing-out}
-use Rattle.ur_grammar.proofs.Steps.{Failing, never_fits}
-use Rattle.ur_grammar.proofs.Choices.{other_stops, if_true, if_false, stops_first, first_stops, starts_at}
-use Rattle.ur_parse_rules.specs.Classes.{Class, Classes, member, in_class, all_of, keyword_class}
+use Rattle.ur_grammar.specs.Places.{Other, OfKind, starts}
+use Rattle.ur_grammar.proofs.Choices.{if_true, if_false}
+use Rattle.ur_parse_rules.specs.Classes.{member, all_of, keyword_class}
 use Rattle.ur_parse_rules.specs.ConParts.{con, arrow, concat, app, args, arg, row, row_field, row_value, fields, record_field}
 use Rattle.ur_parse_rules.specs.declared.place.ConPlace.{ConPlace}
 use Rattle.ur_parse_rules.specs.declared.place.ConPlace.TheVariants as places
 use Rattle.ur_parse_rules.specs.Constructors.{keys_of, within}
 use Rattle.ur_parse_rules.specs.Parts.{of_con}
 use Rattle.ur_parse_rules.specs.Ends.{con_args}
-use Rattle.ur_parse_rules.specs.Language.{language}
-use Rattle.ur_parse_rules.specs.Forms.{up_to}
 use Rattle.ur_parse_rules.proofs.Choice.{choice}
-use Rattle.ur_parse_rules.proofs.Tests.{is_not, or_true, or_first, and_left, false_true}
-
--- ---- where a token of a kind is missing
-
-class_stops : (k : TokenKind) (ts : List Lexeme) → Stops (only k) ts → Stops (member (all_of k ∷ [])) ts
-class_stops k [] s = tt
-class_stops k (t ∷ ts) s = is_not (member (all_of k ∷ []) t.kind t.content) (λ m. sym s ∙ or_true (in_class (all_of k) t.kind t.content) false m (λ h. and_left _ _ h) (λ h. false_true h))
-
-pub missing : {tokens : List Lexeme} {i : ℕ} {k : TokenKind} → slice_get all_kinds (kind_number k) ≡ Some k → Other tokens i (OfKind k) → Stops (member (all_of k ∷ [])) (drop i tokens)
-missing {k = k} l o = class_stops k _ (other_stops l o)
-
--- nor one of other classes
-pub stops_cons : (c : Class) (b : Classes) (ts : List Lexeme) → Stops (member (c ∷ [])) ts → Stops (member b) ts → Stops (member (c ∷ b)) ts
-stops_cons c b [] s u = tt
-stops_cons c b (t ∷ ts) s u = is_not (member (c ∷ b) t.kind t.content) (λ m. or_true (in_class c t.kind t.content) (member b t.kind t.content) m (λ h. sym s ∙ or_first _ _ h) (λ h. sym u ∙ h))
-
--- what stands there is not missing
-pub contradicted : {A : Type 0} {tokens : List Lexeme} {i j : ℕ} {Is : Lexeme → Type 0} → IsAt tokens i j Is → Other tokens i Is → A
-contradicted a o = absurd (o.other a.t _ a.at.split a.is)
+use Rattle.ur_parse_rules.proofs.Places.{missing}
+use Rattle.ur_parse_rules.proofs.Tests.{false_true}
 
 -- ---- the rule that is chosen
 
@@ -115,24 +89,3 @@ no_equals (t ∷ ts) s = if_false 1 s
 
 pub no_value : {tokens : List Lexeme} {i : ℕ} → Other tokens i (OfKind (token.Symbol symbol.Eq)) → choice (of_con row_value) (drop i tokens) ≡ 0
 no_value o = no_equals _ (missing refl o)
-
--- what is read may not end here
-pub may_not_end : {n : ℕ} {tokens : List Lexeme} {r : Refusal} {P : Unit {0} → List Lexeme → Type 0} → Says r 5 [] [] → (P tt tokens → ⊥) → Failing language n [] P tokens r
-may_not_end {tokens = tokens} {P = P} says h = never_fits says (λ m v rest f pv. let z : tokens ≡ rest = f.split ∙ ap (λ y. y ++ rest) (nothing-out language f.spells) in h (subst (λ y. P tt y) (sym z) pv))
-
--- ---- spans
-
--- a span that begins with one and ends with another
-pub span_join : (tokens : List Lexeme) (i j l k : ℕ) → Moves tokens i j → Moves tokens l k → i < k → span_of tokens i k ≡ up_to (span_of tokens i j) (span_of tokens l k)
-span_join tokens i j l k m m' lt = let a : i < j = m.on in let b : j ≤ length tokens = m.within in let c : l < k = m'.on in let d : k ≤ length tokens = m'.within in
-    let o = (slice_get_cases tokens i).1 in let o' = (slice_get_cases tokens (j - 1)).1 in let p = (slice_get_cases tokens l).1 in let q = (slice_get_cases tokens (k - 1)).1 in
-    elim o [
-      | inr z ↦ absurd (omega (arith, z, a, b))
-      | inl x ↦ (elim o' [
-        | inr z ↦ absurd (omega (arith, z, a, b))
-        | inl y ↦ (elim p [
-          | inr z ↦ absurd (omega (arith, z, c, d))
-          | inl u ↦ (elim q [ inr z ↦ absurd (omega (arith, z, c, d)) | inl v ↦ (let e = x.2 in let f = y.2 in let g = u.2 in let h = v.2 in rw (e, f, g, h) refl) ])
-        ])
-      ])
-    ]

@@ -30,7 +30,8 @@ use Rattle.ur_parse_con.specs.declared.joins.Join.{Join}
 use Rattle.ur_parse_con.specs.declared.joins.Join.TheVariants as joins
 use Rattle.ur_parse_con.specs.declared.joins.Piece.{Piece}
 use Rattle.ur_parse_con.specs.Joins.{joined_form, chained}
-use Rattle.ur_parse_con.proofs.Classed.{missing, stops_cons, single_arrow, single_concat, span_join}
+use Rattle.ur_parse_rules.proofs.Places.{missing, stops_cons, span_join}
+use Rattle.ur_parse_con.proofs.Classed.{single_arrow, single_concat}
 
 pub chained-push : (j : Join) (xs : List Piece) (x : Piece) (covered : Span) (c : Con) → chained j (xs ++ x ∷ []) covered c ≡ chained j xs covered (record { span = up_to x.span covered; form = joined_form j x.con c })
 chained-push j [] x covered c = refl

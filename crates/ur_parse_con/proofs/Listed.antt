@@ -25,8 +25,8 @@ use Rattle.ur_parse_rules.specs.Language.{language}
 use Rattle.ur_parse_rules.proofs.Choice.{choice}
 use Rattle.ur_parse_rules.proofs.AllDecided.{decided}
 use Rattle.ur_parse_rules.proofs.Tests.{false_true, or_second}
-use Rattle.ur_parse_con.proofs.Chains.{ends_empty}
-use Rattle.ur_parse_con.proofs.Classed.{missing, stops_cons, row_goes_on, fields_go_on, no_value, single_field, single_record_field, may_not_end}
+use Rattle.ur_parse_rules.proofs.Places.{ends_empty, missing, stops_cons, may_not_end}
+use Rattle.ur_parse_con.proofs.Classed.{row_goes_on, fields_go_on, no_value, single_field, single_record_field}
 
 module _ {n : ℕ} {tokens : List Lexeme} where
   -- the first one leads on to those behind it

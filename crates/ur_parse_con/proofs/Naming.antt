@@ -1,6 +1,6 @@
 -- Words and names.
-use Rattle.std.specs.Prelude.{◌≡◌, ◌+◌, ℕ, Bool, true, false, ◌||◌, List, [], ◌∷◌, ◌++◌, drop, slice_get, IfSome, refl}
-use Rattle.std.proofs.Common.{sym, ◌∙◌, ap, arith}
+use Rattle.std.specs.Prelude.{◌≡◌, ◌+◌, Bool, true, false, ◌||◌, List, [], ◌∷◌, ◌++◌, refl}
+use Rattle.std.proofs.Common.{sym, ◌∙◌, ap}
 use Rattle.std.proofs.lemmas.List.Folds.{list_any-append}
 use Rattle.std.specs.Str.{bytes_eq}
 use Rattle.ur_lex.specs.declared.token.Keyword.{Keyword}
@@ -12,8 +12,7 @@ use Rattle.ur_lex.specs.declared.token.TokenKind.TheVariants as token
 use Rattle.ur_lex.specs.declared.token.Lexeme.{Lexeme}
 use Rattle.ur_lex.specs.Spelling.{Text, is_among}
 use Rattle.ur_grammar.specs.Rules.{Stops}
-use Rattle.ur_grammar.specs.Places.{IsAt, IsName, OfKind, Passing, starts}
-use Rattle.ur_grammar.proofs.Tokens.{content_at}
+use Rattle.ur_grammar.specs.Places.{starts}
 use Rattle.ur_parse_rules.specs.Classes.{member, in_class, symbol_class}
 use Rattle.ur_parse_rules.specs.Ends.{con_args, con_more}
 use Rattle.ur_parse_rules.specs.Words.{sql_words, is_free}
@@ -29,10 +28,6 @@ pub in_groups : (w : Text) → is_among sql_words w ≡ (is_among table_words w 
 in_groups w = let p = bytes_eq w in list_any-append p table_words (query_words ++ (choice_words ++ (change_words ++ value_words)))
     ∙ ap (λ z. is_among table_words w || z) (list_any-append p query_words (choice_words ++ (change_words ++ value_words))
     ∙ ap (λ z. is_among query_words w || z) (list_any-append p choice_words (change_words ++ value_words) ∙ ap (λ z. is_among choice_words w || z) (list_any-append p change_words value_words)))
-
--- a token whose content passes a test
-pub passing : (ok : Text → Bool) (tokens : List Lexeme) (i : ℕ) (k : TokenKind) (w : Text) → IsAt tokens i (i + 1) (OfKind k) → IfSome (slice_get tokens i) (λ t. w ≡ t.content) → (b : Bool) → b ≡ ok w → b ≡ true → IsAt tokens i (i + 1) (Passing k ok)
-passing ok tokens i k w a h b e f = record { next = refl; t = a.t; at = a.at; is = (a.is, ap ok (sym (content_at tokens i w a.t a.at h)) ∙ sym e ∙ f) }
 
 -- ---- what arguments begin with
 
@@ -72,7 +67,3 @@ pub goes_on_by : (ts : List Lexeme) → Stops (member (symbol_class symbol.Arrow
 goes_on_by [] a b = refl
 goes_on_by (t ∷ ts) a b = skipped (in_class (symbol_class symbol.DoublePlus) t.kind t.content) (member (con_args false) t.kind t.content) b
     ∙ skipped (in_class (symbol_class symbol.Arrow) t.kind t.content) (member (symbol_class symbol.DoublePlus ∷ con_args false) t.kind t.content) a
-
--- a name that passes a test
-pub passing_name : (ok : Text → Bool) (tokens : List Lexeme) (i : ℕ) (k : TokenKind) (w x : Text) → IsAt tokens i (i + 1) (Passing k ok) → IfSome (slice_get tokens i) (λ t. w ≡ t.content) → x ≡ w → IsName tokens i (i + 1) k ok x
-passing_name ok tokens i k w x a h e = record { next = refl; t = a.t; at = a.at; kind = a.is.0; passes = a.is.1; is = e ∙ content_at tokens i w a.t a.at h }

@@ -25,8 +25,7 @@ use Rattle.ur_parse_rules.proofs.Choice.{choice, param_choice, colons, a_name as
 use Rattle.ur_parse_rules.proofs.Leads.{hits}
 use Rattle.ur_parse_rules.proofs.AllDecided.{decided}
 use Rattle.ur_parse_rules.proofs.Tests.{false_true}
-use Rattle.ur_parse_con.proofs.Chains.{ends_empty}
-use Rattle.ur_parse_con.proofs.Classed.{missing}
+use Rattle.ur_parse_rules.proofs.Places.{ends_empty, missing}
 
 -- ---- which of the two is chosen
 

@@ -22,7 +22,7 @@ use Rattle.ur_parse_rules.specs.Parts.{of_decl, Named, KeyColumns, Keys}
 use Rattle.ur_parse_rules.specs.Language.{language}
 use Rattle.ur_parse_rules.proofs.Choice.{choice}
 use Rattle.ur_parse_rules.proofs.AllDecided.{decided}
-use Rattle.ur_parse_con.proofs.Chains.{ends_empty}
+use Rattle.ur_parse_rules.proofs.Places.{ends_empty}
 use Rattle.ur_parse_decl.specs.Tables.{ColumnsRead, KeysRead, keyed}
 use Rattle.ur_parse_pat.proofs.Binders.{cannot_end}
 use Rattle.ur_parse_decl.proofs.Ending.{word_missing}

@@ -23,9 +23,7 @@ use Rattle.ur_parse_rules.specs.Language.{language}
 use Rattle.ur_parse_rules.proofs.Choice.{choice}
 use Rattle.ur_parse_rules.proofs.AllDecided.{decided}
 use Rattle.ur_parse_rules.proofs.Tests.{false_true, or_first, inside}
-use Rattle.ur_parse_con.proofs.Atoms.{mark_moves, name_moves}
-use Rattle.ur_parse_con.proofs.Chains.{ends_empty}
-use Rattle.ur_parse_con.proofs.Classed.{missing, contradicted}
+use Rattle.ur_parse_rules.proofs.Places.{mark_moves, name_moves, ends_empty, missing, contradicted}
 use Rattle.ur_parse_decl.specs.Tables.{ColumnsRead, keyed}
 
 -- ---- the rule that is chosen

@@ -27,7 +27,7 @@ use Rattle.ur_parse_rules.specs.Parts.{of_con, of_decl}
 use Rattle.ur_parse_rules.specs.Language.{language}
 use Rattle.ur_parse_rules.proofs.Choice.{choice}
 use Rattle.ur_parse_rules.proofs.AllDecided.{decided}
-use Rattle.ur_parse_con.proofs.Classed.{missing, stops_cons}
+use Rattle.ur_parse_rules.proofs.Places.{missing, stops_cons}
 use Rattle.ur_parse_sig.specs.Declares.{Declares}
 use Rattle.ur_parse_decl.specs.Variants.{VariantRead, variant_more}
 use Rattle.ur_parse_pat.proofs.Binders.{cannot_end}

@@ -21,7 +21,7 @@ use Rattle.ur_parse_rules.specs.Language.{language}
 use Rattle.ur_parse_rules.proofs.Choice.{choice}
 use Rattle.ur_parse_rules.proofs.AllDecided.{decided}
 use Rattle.ur_parse_rules.proofs.Tests.{false_true}
-use Rattle.ur_parse_con.proofs.Classed.{span_join, stops_cons}
+use Rattle.ur_parse_rules.proofs.Places.{span_join, stops_cons}
 
 applied-push : (b : Span) (h : Exp) (xs : List GivenAt) (x : GivenAt) → applied b h (xs ++ x ∷ []) ≡ apply_to (up_to b x.span) (applied b h xs) x.given
 applied-push b h [] x = refl

@@ -19,8 +19,7 @@ use Rattle.ur_parse_rules.specs.Parts.{of_exp, Ended}
 use Rattle.ur_parse_rules.specs.Language.{language}
 use Rattle.ur_parse_rules.proofs.Choice.{choice}
 use Rattle.ur_parse_rules.proofs.AllDecided.{decided}
-use Rattle.ur_parse_con.proofs.Chains.{ends_empty}
-use Rattle.ur_parse_con.proofs.Classed.{missing}
+use Rattle.ur_parse_rules.proofs.Places.{ends_empty, missing}
 
 second_one : (b : Bool) → let z : ℕ = if b then 1 else 1 in z ≡ 1
 second_one true = refl

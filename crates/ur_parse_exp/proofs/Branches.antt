@@ -20,7 +20,7 @@ use Rattle.ur_parse_rules.specs.Parts.{of_exp, Ended}
 use Rattle.ur_parse_rules.specs.Language.{language}
 use Rattle.ur_parse_rules.proofs.Choice.{choice}
 use Rattle.ur_parse_rules.proofs.AllDecided.{decided}
-use Rattle.ur_parse_con.proofs.Classed.{missing}
+use Rattle.ur_parse_rules.proofs.Places.{missing}
 use Rattle.ur_parse_pat.proofs.Binders.{cannot_end}
 use Rattle.ur_parse_exp_parts.specs.Lists.{branch}
 use Rattle.ur_parse_exp.specs.Branches.{BranchRead}

@@ -20,7 +20,7 @@ use Rattle.ur_parse_rules.specs.Language.{language}
 use Rattle.ur_parse_rules.proofs.Choice.{choice}
 use Rattle.ur_parse_rules.proofs.AllDecided.{decided}
 use Rattle.ur_parse_rules.proofs.RawCode.{raw_is}
-use Rattle.ur_parse_con.proofs.Classed.{may_not_end}
+use Rattle.ur_parse_rules.proofs.Places.{may_not_end}
 use Rattle.ur_parse_code.specs.declared.quotes.Range.{Range}
 use Rattle.ur_parse_code.specs.Quotes.{raw_of}
 use Rattle.ur_skeletons.specs.Filled.{OpensBeyond}

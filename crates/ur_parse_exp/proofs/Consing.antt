@@ -22,7 +22,7 @@ use Rattle.ur_parse_rules.specs.Parts.{of_exp}
 use Rattle.ur_parse_rules.specs.Language.{language}
 use Rattle.ur_parse_rules.proofs.Choice.{choice}
 use Rattle.ur_parse_rules.proofs.AllDecided.{decided}
-use Rattle.ur_parse_con.proofs.Classed.{missing, stops_cons, span_join}
+use Rattle.ur_parse_rules.proofs.Places.{missing, stops_cons, span_join}
 use Rattle.ur_parse_exp_parts.specs.declared.list.Piece.{Piece}
 use Rattle.ur_parse_exp_parts.specs.Lists.{listed}
 use Rattle.ur_parse_exp_parts.proofs.Joined.{listed-push, listed-from}

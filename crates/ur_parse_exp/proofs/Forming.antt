@@ -27,7 +27,7 @@ use Rattle.ur_parse_rules.specs.Parts.{of_exp, of_sql, Ended}
 use Rattle.ur_parse_rules.specs.Language.{language}
 use Rattle.ur_parse_rules.proofs.Choice.{choice}
 use Rattle.ur_parse_rules.proofs.AllDecided.{decided}
-use Rattle.ur_parse_con.proofs.Classed.{missing}
+use Rattle.ur_parse_rules.proofs.Places.{missing}
 use Rattle.ur_parse_pat.proofs.Binders.{cannot_end}
 use Rattle.ur_parse_exp_parts.specs.declared.word.FormWord.TheVariants as words
 use Rattle.ur_parse_exp_parts.specs.Words.{Stands}

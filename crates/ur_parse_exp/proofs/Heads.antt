@@ -25,7 +25,7 @@ use Rattle.ur_parse_rules.specs.Language.{language}
 use Rattle.ur_parse_rules.proofs.Choice.{choice}
 use Rattle.ur_parse_rules.proofs.AllDecided.{decided}
 use Rattle.ur_parse_rules.proofs.Tests.{false_true}
-use Rattle.ur_parse_con.proofs.Classed.{missing}
+use Rattle.ur_parse_rules.proofs.Places.{missing}
 use Rattle.ur_parse_pat.proofs.Binders.{cannot_end}
 use Rattle.ur_parse_exp_parts.specs.declared.form.Single.{Single}
 use Rattle.ur_parse_exp_parts.specs.declared.form.Single.TheVariants as ones

@@ -23,7 +23,7 @@ use Rattle.ur_parse_rules.specs.Parts.{of_exp, Ended}
 use Rattle.ur_parse_rules.specs.Language.{language}
 use Rattle.ur_parse_rules.proofs.Choice.{choice}
 use Rattle.ur_parse_rules.proofs.AllDecided.{decided}
-use Rattle.ur_parse_con.proofs.Classed.{missing}
+use Rattle.ur_parse_rules.proofs.Places.{missing}
 use Rattle.ur_parse_exp_parts.specs.Heads.{HeadRead}
 
 module _ {n : ℕ} {tokens : List Lexeme} {here begin : ℕ} (i : IsAt tokens here begin (OfKind (token.Keyword keyword.If))) where

@@ -25,7 +25,7 @@ use Rattle.ur_parse_rules.specs.Parts.{of_exp, of_xml}
 use Rattle.ur_parse_rules.specs.Language.{language}
 use Rattle.ur_parse_rules.proofs.Choice.{choice}
 use Rattle.ur_parse_rules.proofs.AllDecided.{decided}
-use Rattle.ur_parse_con.proofs.Chains.{ends_empty}
+use Rattle.ur_parse_rules.proofs.Places.{ends_empty}
 use Rattle.ur_parse_code.specs.declared.quotes.Quotes.{Quotes}
 use Rattle.ur_parse_code.specs.Quotes.{Numbered}
 use Rattle.ur_skeletons.specs.Filled.{Fills, AllKnown, OpensBehind}

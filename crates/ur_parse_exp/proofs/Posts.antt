@@ -27,9 +27,7 @@ use Rattle.ur_parse_rules.specs.Language.{language}
 use Rattle.ur_parse_rules.proofs.Choice.{choice}
 use Rattle.ur_parse_rules.proofs.AllDecided.{decided}
 use Rattle.ur_parse_rules.proofs.Tests.{false_true, is_not, or_first}
-use Rattle.ur_parse_con.proofs.Chains.{ends_empty}
-use Rattle.ur_parse_con.proofs.Classed.{missing, span_join}
-use Rattle.ur_parse_con.proofs.Atoms.{mark_moves, moves_on}
+use Rattle.ur_parse_rules.proofs.Places.{ends_empty, missing, span_join, mark_moves, moves_on}
 use Rattle.ur_lex.specs.declared.token.Symbol.{Symbol}
 use Rattle.ur_lex.specs.declared.token.TokenKind.{TokenKind}
 use Rattle.ur_parse_exp_parts.specs.Begins.{opens, opens_post, begins_base, begins_post, begins_argument}

@@ -24,7 +24,7 @@ use Rattle.ur_parse_rules.specs.Language.{language}
 use Rattle.ur_parse_rules.proofs.Choice.{choice}
 use Rattle.ur_parse_rules.proofs.AllDecided.{decided}
 use Rattle.ur_parse_rules.proofs.Tests.{false_true}
-use Rattle.ur_parse_con.proofs.Classed.{missing, stops_cons}
+use Rattle.ur_parse_rules.proofs.Places.{missing, stops_cons}
 use Rattle.ur_parse_pat.proofs.Binders.{cannot_end}
 use Rattle.ur_parse_exp_parts.specs.Bindings.{Binds, BindsNone, nameless, arrowless}
 use Rattle.ur_parse_exp_parts.proofs.Bindings.{binds_name}

@@ -24,8 +24,7 @@ use Rattle.ur_parse_rules.specs.Parts.{of_exp, of_sql}
 use Rattle.ur_parse_rules.specs.Language.{language}
 use Rattle.ur_parse_rules.proofs.Choice.{choice}
 use Rattle.ur_parse_rules.proofs.AllDecided.{decided}
-use Rattle.ur_parse_con.proofs.Chains.{ends_empty}
-use Rattle.ur_parse_con.proofs.Classed.{missing}
+use Rattle.ur_parse_rules.proofs.Places.{ends_empty, missing}
 use Rattle.ur_parse_pat.proofs.Binders.{cannot_end}
 use Rattle.ur_parse_exp_parts.specs.declared.word.FormWord.TheVariants as words
 use Rattle.ur_parse_exp_parts.specs.Words.{Stands}

@@ -18,7 +18,7 @@ use Rattle.ur_parse_rules.specs.Language.{language}
 use Rattle.ur_parse_rules.proofs.Choice.{choice}
 use Rattle.ur_parse_rules.proofs.AllDecided.{decided}
 use Rattle.ur_parse_rules.proofs.Tests.{and_true}
-use Rattle.ur_parse_con.proofs.Classed.{contradicted}
+use Rattle.ur_parse_rules.proofs.Places.{contradicted}
 use Rattle.ur_parse_exp_parts.specs.Bindings.{BindsOne, ignored, named}
 
 bound_chosen : (t u : Lexeme) (us : List Lexeme) → t.kind ≡ token.Lower → u.kind ≡ token.Symbol symbol.LeftArrow → choice (of_exp exp) (t ∷ u ∷ us) ≡ 1

@@ -25,8 +25,7 @@ use Rattle.ur_parse_rules.specs.Language.{language}
 use Rattle.ur_parse_rules.proofs.Choice.{choice}
 use Rattle.ur_parse_rules.proofs.AllDecided.{decided}
 use Rattle.ur_parse_rules.proofs.Tests.{false_true}
-use Rattle.ur_parse_con.proofs.Chains.{ends_empty}
-use Rattle.ur_parse_con.proofs.Classed.{missing}
+use Rattle.ur_parse_rules.proofs.Places.{ends_empty, missing}
 use Rattle.ur_parse_exp_parts.specs.Heads.{param_starts, ParamsRead, ParamsRefused, first, behind}
 
 -- ---- whether a parameter begins

@@ -34,7 +34,7 @@ use Rattle.ur_parse_rules.proofs.Starts.{step_starts}
 use Rattle.ur_parse_rules.proofs.Choice.{choice}
 use Rattle.ur_parse_rules.proofs.AllDecided.{decided}
 use Rattle.ur_parse_rules.proofs.Tests.{false_true, is_not}
-use Rattle.ur_parse_con.proofs.Classed.{missing, span_join}
+use Rattle.ur_parse_rules.proofs.Places.{missing, span_join}
 use Rattle.ur_parse_pat.proofs.Binders.{cannot_end}
 use Rattle.ur_parse_exp_parts.proofs.Ending.{stops_both, skips}
 use Rattle.ur_parse_parts.specs.declared.operator.Level.{Level}

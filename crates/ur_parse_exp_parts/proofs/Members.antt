@@ -19,9 +19,7 @@ use Rattle.ur_parse_rules.specs.Parts.{of_exp, lower, upper, alone, of_module}
 use Rattle.ur_parse_rules.specs.Language.{language}
 use Rattle.ur_parse_rules.proofs.Choice.{choice}
 use Rattle.ur_parse_rules.proofs.AllDecided.{decided}
-use Rattle.ur_parse_con.proofs.Chains.{ends_empty}
-use Rattle.ur_parse_con.proofs.Classed.{missing, span_join}
-use Rattle.ur_parse_con.proofs.Atoms.{name_moves}
+use Rattle.ur_parse_rules.proofs.Places.{ends_empty, missing, span_join, name_moves}
 use Rattle.ur_parse_exp_parts.specs.Behind.{DotsRead, CapitalRead, NilRead}
 
 module _ {tokens : List Lexeme} {here : ℕ} where

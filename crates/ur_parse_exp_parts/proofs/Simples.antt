@@ -22,14 +22,12 @@ use Rattle.ur_parse_rules.specs.Parts.{of_exp}
 use Rattle.ur_parse_rules.specs.Language.{language}
 use Rattle.ur_parse_rules.proofs.Choice.{choice}
 use Rattle.ur_parse_rules.proofs.AllDecided.{decided}
-use Rattle.ur_parse_con.proofs.Chains.{ends_empty}
-use Rattle.ur_parse_con.proofs.Classed.{missing}
+use Rattle.ur_parse_rules.proofs.Places.{ends_empty, missing, stops_cons}
 use Rattle.ur_parse_rules.proofs.Starts.{first}
 use Rattle.ur_parse_rules.specs.Quoted.{expressions}
 use Rattle.ur_parse_rules.specs.XmlParts.{literal}
 use Rattle.ur_parse_rules.specs.Parts.{of_xml}
 use Rattle.ur_parse_rules.specs.Classes.{symbol_class}
-use Rattle.ur_parse_con.proofs.Classed.{stops_cons}
 use Rattle.ur_parse_exp_parts.specs.Begins.{NoneOpens}
 use Rattle.ur_parse_exp_parts.proofs.Begun.{begins_part}
 

@@ -22,7 +22,7 @@ use Rattle.ur_parse_rules.specs.Parts.{of_decl}
 use Rattle.ur_parse_rules.specs.Language.{language}
 use Rattle.ur_parse_rules.proofs.Choice.{choice}
 use Rattle.ur_parse_rules.proofs.AllDecided.{decided}
-use Rattle.ur_parse_con.proofs.Classed.{missing, stops_cons}
+use Rattle.ur_parse_rules.proofs.Places.{missing, stops_cons}
 use Rattle.ur_parse_sig.specs.Declares.{Declares}
 use Rattle.ur_parse_pat.proofs.Binders.{cannot_end}
 use Rattle.ur_parse_decl.proofs.Ending.{stops_within, stops_at}

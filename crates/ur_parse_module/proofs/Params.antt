@@ -19,8 +19,7 @@ use Rattle.ur_parse_rules.specs.Parts.{of_con, of_exp, of_decl}
 use Rattle.ur_parse_rules.specs.Language.{language}
 use Rattle.ur_parse_rules.proofs.Choice.{choice}
 use Rattle.ur_parse_rules.proofs.AllDecided.{decided}
-use Rattle.ur_parse_con.proofs.Atoms.{moves_on}
-use Rattle.ur_parse_con.proofs.Classed.{missing}
+use Rattle.ur_parse_rules.proofs.Places.{moves_on, missing}
 use Rattle.ur_parse_pat.specs.Forms.{Stays}
 
 -- one step further on

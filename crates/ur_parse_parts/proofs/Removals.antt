@@ -19,7 +19,7 @@ use Rattle.ur_parse_rules.specs.Parts.{of_exp}
 use Rattle.ur_parse_rules.specs.Language.{language}
 use Rattle.ur_parse_rules.proofs.Choice.{choice}
 use Rattle.ur_parse_rules.proofs.AllDecided.{decided}
-use Rattle.ur_parse_con.proofs.Chains.{ends_empty}
+use Rattle.ur_parse_rules.proofs.Places.{ends_empty}
 
 module _ {n : ℕ} {tokens : List Lexeme} {here : ℕ} where
   pub hash_refused : {next : ℕ} {r : Refusal} → IsAt tokens here next (OfKind (token.Symbol symbol.Hash)) → Unexpected tokens next (Passing token.Upper is_field) r → Refused language n (of_exp removed) (drop here tokens) r

@@ -23,8 +23,7 @@ use Rattle.ur_parse_rules.specs.Language.{language}
 use Rattle.ur_parse_rules.proofs.Choice.{choice}
 use Rattle.ur_parse_rules.proofs.AllDecided.{decided}
 use Rattle.ur_parse_rules.proofs.Tests.{false_true}
-use Rattle.ur_parse_con.proofs.Chains.{ends_empty}
-use Rattle.ur_parse_con.proofs.Classed.{missing, stops_cons, may_not_end}
+use Rattle.ur_parse_rules.proofs.Places.{ends_empty, missing, stops_cons, may_not_end}
 use Rattle.ur_parse_pat.specs.Forms.{Stays}
 
 -- what is read may not end before what goes on

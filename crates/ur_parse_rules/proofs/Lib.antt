@@ -6,6 +6,7 @@ pub mod Most
 pub mod Table
 pub mod Leads
 pub mod Choice
+pub mod Places
 pub mod Watches
 pub mod RawCode
 pub mod Special

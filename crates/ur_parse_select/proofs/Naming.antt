@@ -24,8 +24,7 @@ use Rattle.ur_parse_rules.specs.Statements.{decl_name}
 use Rattle.ur_parse_rules.specs.Language.{language}
 use Rattle.ur_parse_rules.proofs.Choice.{choice}
 use Rattle.ur_parse_rules.proofs.AllDecided.{decided}
-use Rattle.ur_parse_con.proofs.Chains.{ends_empty}
-use Rattle.ur_parse_con.proofs.Classed.{may_not_end}
+use Rattle.ur_parse_rules.proofs.Places.{ends_empty, may_not_end}
 use Rattle.ur_parse_sql.proofs.Words.{no_word as word_stops}
 use Rattle.ur_parse_select.proofs.Growing.{goes_on_not}
 

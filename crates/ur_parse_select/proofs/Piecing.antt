@@ -22,7 +22,7 @@ use Rattle.ur_parse_rules.specs.Language.{language}
 use Rattle.ur_parse_rules.proofs.Choice.{goes_on, a_column}
 use Rattle.ur_parse_rules.proofs.Leads.{hits}
 use Rattle.ur_parse_rules.proofs.AllDecided.{decided}
-use Rattle.ur_parse_con.proofs.Classed.{missing, stops_cons}
+use Rattle.ur_parse_rules.proofs.Places.{missing, stops_cons}
 use Rattle.ur_parse_select.specs.Pieces.{Called, NotCalled, no_as, Enclosed, NotEnclosed, no_open, no_inner, no_close}
 use Rattle.ur_parse_select.specs.Pieces as pieces
 use Rattle.ur_parse_select.specs.Columns.{follows, is_column}

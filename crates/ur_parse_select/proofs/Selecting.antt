@@ -27,8 +27,7 @@ use Rattle.ur_parse_rules.specs.Statements.{renamed, aggregated}
 use Rattle.ur_parse_rules.specs.Language.{language}
 use Rattle.ur_parse_rules.proofs.Choice.{choice}
 use Rattle.ur_parse_rules.proofs.AllDecided.{decided}
-use Rattle.ur_parse_con.proofs.Chains.{ends_empty}
-use Rattle.ur_parse_con.proofs.Classed.{missing, may_not_end}
+use Rattle.ur_parse_rules.proofs.Places.{ends_empty, missing, may_not_end}
 use Rattle.ur_parse_code.specs.declared.quotes.Quotes.{Quotes}
 use Rattle.ur_parse_code.specs.Quotes.{Makes}
 use Rattle.ur_parse_code.proofs.Numbering.{numbered_plain, numbered_mapped, numbered_both}

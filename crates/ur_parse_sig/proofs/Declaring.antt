@@ -27,7 +27,7 @@ use Rattle.ur_parse_rules.specs.Language.{language}
 use Rattle.ur_parse_rules.proofs.Choice.{choice}
 use Rattle.ur_parse_rules.proofs.AllDecided.{decided}
 use Rattle.ur_parse_rules.proofs.Tests.{false_true}
-use Rattle.ur_parse_con.proofs.Classed.{may_not_end}
+use Rattle.ur_parse_rules.proofs.Places.{may_not_end}
 use Rattle.ur_parse_sig.specs.Declares.{Declares}
 
 -- what is refused where a declaration of this word begins

@@ -28,7 +28,7 @@ use Rattle.ur_parse_rules.specs.Language.{language, IsSignature}
 use Rattle.ur_parse_rules.proofs.Choice.{choice}
 use Rattle.ur_parse_rules.proofs.AllDecided.{decided}
 use Rattle.ur_parse_rules.proofs.Tests.{false_true, or_second}
-use Rattle.ur_parse_con.proofs.Classed.{missing, stops_cons, may_not_end}
+use Rattle.ur_parse_rules.proofs.Places.{missing, stops_cons, may_not_end}
 use Rattle.ur_parse_sig.specs.Wholes.{RefusesWhole}
 
 only_one : (b : Bool) → let z : ℕ = if b then 0 else 0 in z ≡ 0

@@ -22,8 +22,7 @@ use Rattle.ur_parse_rules.specs.Language.{language}
 use Rattle.ur_parse_rules.proofs.Choice.{choice}
 use Rattle.ur_parse_rules.proofs.AllDecided.{decided}
 use Rattle.ur_parse_rules.proofs.Tests.{false_true, or_first}
-use Rattle.ur_parse_con.proofs.Chains.{ends_empty}
-use Rattle.ur_parse_con.proofs.Classed.{missing, may_not_end}
+use Rattle.ur_parse_rules.proofs.Places.{ends_empty, missing, may_not_end}
 use Rattle.ur_parse_code.specs.Absent.{Present}
 use Rattle.ur_parse_sql.specs.Columns.{Undotted}
 

@@ -11,7 +11,7 @@ use Rattle.ur_grammar.specs.Places.{IsAt, Other, OfKind, Spelled, starts}
 use Rattle.ur_grammar.proofs.Choices.{starts_at}
 use Rattle.ur_parse_rules.specs.Classes.{Class, Classes, member, all_of, word_class}
 use Rattle.ur_parse_rules.proofs.Tests.{or_first}
-use Rattle.ur_parse_con.proofs.Classed.{missing}
+use Rattle.ur_parse_rules.proofs.Places.{missing}
 use Rattle.ur_parse_sql.proofs.Words.{no_word}
 use Rattle.ur_parse_sql.proofs.Comparing.{starts_word, skipped}
 

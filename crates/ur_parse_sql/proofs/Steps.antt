@@ -25,7 +25,7 @@ use Rattle.ur_parse_rules.specs.Ends.{sql_level, sql_operand, sql_atom, sql_prod
 use Rattle.ur_parse_rules.specs.Language.{language}
 use Rattle.ur_parse_rules.proofs.Choice.{choice}
 use Rattle.ur_parse_rules.proofs.AllDecided.{decided}
-use Rattle.ur_parse_con.proofs.Classed.{missing, stops_cons, span_join}
+use Rattle.ur_parse_rules.proofs.Places.{missing, stops_cons, span_join}
 use Rattle.ur_parse_code.specs.declared.quotes.Quotes.{Quotes}
 use Rattle.ur_parse_code.specs.Quotes.{Numbered, Makes}
 use Rattle.ur_parse_code.proofs.Numbering.{numbered_both}

@@ -27,8 +27,7 @@ use Rattle.ur_parse_rules.specs.Language.{language}
 use Rattle.ur_parse_rules.proofs.Choice.{choice}
 use Rattle.ur_parse_rules.proofs.AllDecided.{decided}
 use Rattle.ur_parse_rules.proofs.Tests.{false_true, is_not, or_first}
-use Rattle.ur_parse_con.proofs.Atoms.{name_moves, mark_moves}
-use Rattle.ur_parse_con.proofs.Classed.{missing, stops_cons, may_not_end}
+use Rattle.ur_parse_rules.proofs.Places.{name_moves, mark_moves, missing, stops_cons, may_not_end}
 use Rattle.ur_parse_code.specs.Absent.{Present}
 use Rattle.ur_parse_code.specs.declared.quotes.Quotes.{Quotes}
 use Rattle.ur_parse_code.specs.Quotes.{Makes, Holds}

@@ -29,8 +29,7 @@ use Rattle.ur_parse_rules.proofs.Choice.{choice, bracket, a_bracket}
 use Rattle.ur_parse_rules.proofs.Leads.{hits}
 use Rattle.ur_parse_rules.proofs.AllDecided.{decided}
 use Rattle.ur_parse_rules.proofs.Tests.{false_true}
-use Rattle.ur_parse_con.proofs.Chains.{ends_empty}
-use Rattle.ur_parse_con.proofs.Classed.{missing, stops_cons}
+use Rattle.ur_parse_rules.proofs.Places.{ends_empty, missing, stops_cons}
 use Rattle.ur_parse_code.specs.declared.quotes.Quotes.{Quotes}
 use Rattle.ur_parse_code.specs.Quotes.{Makes, Holds}
 use Rattle.ur_parse_code.proofs.Numbering.{numbered_plain, numbered_mapped, numbered_both, numbered_deeper}

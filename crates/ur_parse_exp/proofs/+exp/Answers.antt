@@ -4,8 +4,7 @@ use Rattle.std.proofs.lemmas.List.{nil_from_length}
 use Rattle.ur_grammar.specs.Rules.{nested}
 use Rattle.ur_grammar.specs.Places.{Moves}
 use Rattle.ur_grammar.proofs.Steps.{passed, made, made_deep, at_limit}
-use Rattle.ur_parse_con.proofs.Atoms.{mark_moves, name_moves, moves_on}
-use Rattle.ur_parse_con.proofs.Classed.{contradicted}
+use Rattle.ur_parse_rules.proofs.Places.{mark_moves, name_moves, moves_on, contradicted}
 use Rattle.ur_parse_pat.proofs.Binders.{stays_on}
 use Rattle.ur_parse_exp_parts.specs.Begins.{NoneOpens}
 use Rattle.ur_parse_exp_parts.specs.Lines.{ended}

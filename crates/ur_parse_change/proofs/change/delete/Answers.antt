@@ -1,6 +1,6 @@
 use Rattle.std.proofs.Common.{arith, sym, ◌∙◌}
 use Rattle.ur_grammar.proofs.Steps.{passed}
-use Rattle.ur_parse_con.proofs.Atoms.{mark_moves}
+use Rattle.ur_parse_rules.proofs.Places.{mark_moves}
 use Rattle.ur_parse_change.proofs.Statements.{from_missing, delete_table, delete_filter, delete_more, delete_read}
 use Rattle.ur_parse_change.proofs.change.delete.Goals as goal
 

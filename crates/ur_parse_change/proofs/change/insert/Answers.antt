@@ -1,6 +1,6 @@
 use Rattle.std.proofs.Common.{sym, ◌∙◌}
 use Rattle.ur_grammar.proofs.Steps.{passed}
-use Rattle.ur_parse_con.proofs.Atoms.{name_moves, mark_moves, moves_on}
+use Rattle.ur_parse_rules.proofs.Places.{name_moves, mark_moves, moves_on}
 use Rattle.ur_parse_change.proofs.Statements.{into_missing, insert_table, columns_open, column_missing, columns_refused, values_missing, values_open, value_refused, values_refused, insert_more, insert_read}
 use Rattle.ur_parse_change.proofs.change.insert.Goals as goal
 

@@ -1,6 +1,6 @@
 use Rattle.std.proofs.Common.{arith, sym, ◌∙◌}
 use Rattle.ur_grammar.proofs.Steps.{passed}
-use Rattle.ur_parse_con.proofs.Atoms.{mark_moves}
+use Rattle.ur_parse_rules.proofs.Places.{mark_moves}
 use Rattle.ur_parse_change.proofs.Statements.{update_table, set_missing, first_refused, more_refused, update_filter, update_more, update_read}
 use Rattle.ur_parse_change.proofs.change.update.Goals as goal
 

@@ -1,6 +1,6 @@
 use Rattle.std.proofs.Common.{arith}
 use Rattle.ur_grammar.proofs.Steps.{passed}
-use Rattle.ur_parse_con.proofs.Atoms.{name_moves}
+use Rattle.ur_parse_rules.proofs.Places.{name_moves}
 use Rattle.ur_parse_select.proofs.Growing.{added_here}
 use Rattle.ur_parse_change.proofs.Changing.{ColumnsEnd, NoColumnsEnd, columns_refused, columns_more, columns_open, columns_done}
 use Rattle.ur_parse_change.proofs.insert.columns_end.Goals as goal

@@ -3,7 +3,7 @@ use Rattle.std.specs.Prelude.{false}
 use Rattle.ur_grammar.proofs.Choices.{starts_at}
 use Rattle.ur_parse_rules.specs.Classes.{member}
 use Rattle.ur_parse_rules.specs.Ends.{con_more}
-use Rattle.ur_parse_con.proofs.Classed.{missing}
+use Rattle.ur_parse_rules.proofs.Places.{missing}
 use Rattle.ur_parse_con.proofs.Naming.{goes_on_by}
 use Rattle.ur_parse_con.proofs.fields.goes_on.Goals as goal
 

@@ -6,7 +6,8 @@ use Rattle.ur_grammar.proofs.Steps.{nothing, a_mark, a_word, an_one, mark_read, 
 use Rattle.ur_grammar.proofs.Choices.{chosen_mark_at}
 use Rattle.ur_parse_rules.proofs.Choice.{choice}
 use Rattle.ur_parse_rules.proofs.AllDecided.{decided}
-use Rattle.ur_parse_con.proofs.Chains.{chain_start, chain_more, chain_done, chain_refused, first_refused, ends_empty}
+use Rattle.ur_parse_rules.proofs.Places.{ends_empty}
+use Rattle.ur_parse_con.proofs.Chains.{chain_start, chain_more, chain_done, chain_refused, first_refused}
 use Rattle.ur_parse_con.proofs.kind.+kinds.Goals as goal
 
 -- ---- kind

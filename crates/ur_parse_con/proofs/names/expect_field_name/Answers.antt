@@ -1,6 +1,7 @@
 use Rattle.std.proofs.Common.{refl}
 use Rattle.ur_grammar.proofs.Steps.{passed}
-use Rattle.ur_parse_con.proofs.Atoms.{name_moves, field_variable, field_literal, field_variable_refused, no_field_name}
+use Rattle.ur_parse_rules.proofs.Places.{name_moves}
+use Rattle.ur_parse_con.proofs.Atoms.{field_variable, field_literal, field_variable_refused, no_field_name}
 use Rattle.ur_parse_con.proofs.names.expect_field_name.Goals as goal
 
 pub returns-in_err-name-clause-refused : goal.returns-in_err-name-clause-refused

@@ -1,5 +1,5 @@
 use Rattle.ur_grammar.proofs.Steps.{passed}
-use Rattle.ur_parse_con.proofs.Atoms.{mark_moves, name_moves, moves_on}
+use Rattle.ur_parse_rules.proofs.Places.{mark_moves, name_moves, moves_on}
 use Rattle.ur_parse_decl.proofs.Listed.{enclosed_missing, enclosed_first, enclosed_refused, enclosed_open, enclosed_more, enclosed_done}
 use Rattle.ur_parse_decl.proofs.columns.enclosed.Goals as goal
 

@@ -1,5 +1,5 @@
 use Rattle.ur_grammar.proofs.Steps.{passed}
-use Rattle.ur_parse_con.proofs.Atoms.{mark_moves, name_moves, moves_on}
+use Rattle.ur_parse_rules.proofs.Places.{mark_moves, name_moves, moves_on}
 use Rattle.ur_parse_decl.proofs.Listed.{list_missing, list_first, list_refused, list_more, list_done}
 use Rattle.ur_parse_decl.proofs.columns.listed.Goals as goal
 

@@ -1,5 +1,5 @@
 use Rattle.ur_grammar.proofs.Steps.{passed}
-use Rattle.ur_parse_con.proofs.Atoms.{mark_moves, name_moves, moves_on}
+use Rattle.ur_parse_rules.proofs.Places.{mark_moves, name_moves, moves_on}
 use Rattle.ur_parse_decl.proofs.Variants.{datatype_name, datatype_mark, datatype_variant, datatype_first, datatype_refused, datatype_more, datatype_done}
 use Rattle.ur_parse_decl.proofs.datatype.read_datatype.Goals as goal
 

@@ -1,5 +1,5 @@
 use Rattle.ur_grammar.proofs.Steps.{passed}
-use Rattle.ur_parse_con.proofs.Atoms.{mark_moves, name_moves, moves_on}
+use Rattle.ur_parse_rules.proofs.Places.{mark_moves, name_moves, moves_on}
 use Rattle.ur_parse_decl.proofs.Variants.{variant_nameless, variant_plain, variant_refused, variant_of_read}
 use Rattle.ur_parse_decl.proofs.datatype.read_variant.Goals as goal
 

@@ -1,5 +1,5 @@
 use Rattle.ur_grammar.proofs.Steps.{passed}
-use Rattle.ur_parse_con.proofs.Atoms.{name_moves}
+use Rattle.ur_parse_rules.proofs.Places.{name_moves}
 use Rattle.ur_parse_decl.proofs.Constraints.{lower_name, upper_name, no_lower, nameless}
 use Rattle.ur_parse_decl.proofs.keys.constraint_name.Goals as goal
 

@@ -1,5 +1,5 @@
 use Rattle.ur_grammar.proofs.Steps.{passed}
-use Rattle.ur_parse_con.proofs.Atoms.{mark_moves, moves_on}
+use Rattle.ur_parse_rules.proofs.Places.{mark_moves, moves_on}
 use Rattle.ur_parse_decl.proofs.Constraints.{columns_more}
 use Rattle.ur_parse_decl.proofs.keys.key_columns.Goals as goal
 

@@ -1,6 +1,6 @@
 use Rattle.std.proofs.Common.{inr}
 use Rattle.ur_grammar.proofs.Steps.{passed}
-use Rattle.ur_parse_con.proofs.Atoms.{mark_moves, moves_on}
+use Rattle.ur_parse_rules.proofs.Places.{mark_moves, moves_on}
 use Rattle.ur_parse_decl.proofs.Constraints.{keys_none, no_word_key, primary_refused, primary_read, head_refused, unique_refused, unique_read}
 use Rattle.ur_parse_decl.proofs.keys.read_keys.Goals as goal
 

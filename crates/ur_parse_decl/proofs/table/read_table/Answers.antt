@@ -1,5 +1,5 @@
 use Rattle.ur_grammar.proofs.Steps.{passed}
-use Rattle.ur_parse_con.proofs.Atoms.{mark_moves, name_moves, moves_on}
+use Rattle.ur_parse_rules.proofs.Places.{mark_moves, name_moves, moves_on}
 use Rattle.ur_parse_pat.proofs.Binders.{stays_on}
 use Rattle.ur_parse_decl.proofs.Tables.{table_name, table_mark, table_con, table_keys, table_read}
 use Rattle.ur_parse_decl.proofs.table.read_table.Goals as goal

@@ -1,5 +1,5 @@
 use Rattle.ur_grammar.proofs.Steps.{passed}
-use Rattle.ur_parse_con.proofs.Atoms.{mark_moves, name_moves, moves_on}
+use Rattle.ur_parse_rules.proofs.Places.{mark_moves, name_moves, moves_on}
 use Rattle.ur_parse_exp_forms.proofs.Naming.{bare_read, bare_refused, no_decl, dot_missing, inner_missing, member_read}
 use Rattle.ur_parse_exp_forms.proofs.name.decl_name.Goals as goal
 

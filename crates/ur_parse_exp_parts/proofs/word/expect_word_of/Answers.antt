@@ -1,5 +1,5 @@
 use Rattle.ur_parse_rules.specs.Words.{is_name}
-use Rattle.ur_parse_con.proofs.Naming.{passing_name}
+use Rattle.ur_parse_rules.proofs.Places.{passing_name}
 use Rattle.ur_parse_exp_parts.proofs.word.expect_word_of.Goals as goal
 
 pub returns-in_ok-text-clause-found : goal.returns-in_ok-text-clause-found

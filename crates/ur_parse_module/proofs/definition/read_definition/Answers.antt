@@ -1,6 +1,6 @@
 use Rattle.ur_grammar.proofs.Steps.{passed}
 use Rattle.ur_grammar.specs.Places.{Moves}
-use Rattle.ur_parse_con.proofs.Atoms.{mark_moves, name_moves, moves_on}
+use Rattle.ur_parse_rules.proofs.Places.{mark_moves, name_moves, moves_on}
 use Rattle.ur_parse_pat.proofs.Binders.{stays_on}
 use Rattle.ur_parse_module.proofs.Definitions.{definition_nameless, definition_con_params, definition_params, definition_mark, definition_con, definition_equals, definition_exp, definition_read}
 use Rattle.ur_parse_module.proofs.definition.read_definition.Goals as goal

@@ -1,5 +1,5 @@
 use Rattle.ur_grammar.proofs.Steps.{passed}
-use Rattle.ur_parse_con.proofs.Atoms.{mark_moves, moves_on}
+use Rattle.ur_parse_rules.proofs.Places.{mark_moves, moves_on}
 use Rattle.ur_parse_module.proofs.Functions.{fun_definition, fun_first, fun_refused, fun_more, fun_done}
 use Rattle.ur_parse_module.proofs.function.read_fun.Goals as goal
 

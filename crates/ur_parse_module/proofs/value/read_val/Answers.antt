@@ -1,5 +1,5 @@
 use Rattle.ur_grammar.proofs.Steps.{passed}
-use Rattle.ur_parse_con.proofs.Atoms.{mark_moves, name_moves, moves_on}
+use Rattle.ur_parse_rules.proofs.Places.{mark_moves, name_moves, moves_on}
 use Rattle.ur_parse_module.proofs.Values.{val_name, val_colon, val_con, val_equals, val_exp, val_read}
 use Rattle.ur_parse_module.proofs.value.read_val.Goals as goal
 

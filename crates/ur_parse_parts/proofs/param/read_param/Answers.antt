@@ -1,5 +1,5 @@
 use Rattle.ur_grammar.proofs.Steps.{passed}
-use Rattle.ur_parse_con.proofs.Atoms.{mark_moves, moves_on}
+use Rattle.ur_parse_rules.proofs.Places.{mark_moves, moves_on}
 use Rattle.ur_parse_parts.proofs.Params.{no_param, unit_read, binder_refused, colon_refused, con_refused, close_refused, typed_read}
 use Rattle.ur_parse_parts.proofs.param.read_param.Goals as goal
 

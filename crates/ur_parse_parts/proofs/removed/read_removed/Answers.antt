@@ -1,5 +1,5 @@
 use Rattle.ur_grammar.proofs.Steps.{passed}
-use Rattle.ur_parse_con.proofs.Atoms.{mark_moves, name_moves, moves_on}
+use Rattle.ur_parse_rules.proofs.Places.{mark_moves, name_moves, moves_on}
 use Rattle.ur_parse_parts.proofs.Removals.{hash_refused, hash_read, variable_refused, variable_read, literal_read, nothing_removed}
 use Rattle.ur_parse_parts.proofs.removed.read_removed.Goals as goal
 

@@ -1,7 +1,7 @@
 use Rattle.std.proofs.Common.{refl, inr}
 use Rattle.ur_parse_rules.specs.Parts.{argument, of_module}
 use Rattle.ur_grammar.proofs.Steps.{passed, made}
-use Rattle.ur_parse_con.proofs.Atoms.{mark_moves, name_moves, moves_on}
+use Rattle.ur_parse_rules.proofs.Places.{mark_moves, name_moves, moves_on}
 use Rattle.ur_parse_pat.proofs.Binders.{stays_on, plain_refused, plain_dotted, plain_read, dotted_name, dotted_refused, dotted_dotted, dotted_read}
 use Rattle.ur_parse_pat.proofs.behind.rest.Goals as goal
 

@@ -1,6 +1,6 @@
 use Rattle.std.proofs.Common.{inr}
 use Rattle.ur_grammar.proofs.Steps.{passed, made}
-use Rattle.ur_parse_con.proofs.Atoms.{mark_moves, moves_on}
+use Rattle.ur_parse_rules.proofs.Places.{mark_moves, moves_on}
 use Rattle.ur_parse_pat.proofs.Binders.{tail_none, tail_refused, tail_twice, tail_read}
 use Rattle.ur_parse_pat.proofs.behind.tail.Goals as goal
 

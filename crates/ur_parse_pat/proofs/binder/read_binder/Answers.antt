@@ -1,5 +1,5 @@
 use Rattle.ur_grammar.proofs.Steps.{passed}
-use Rattle.ur_parse_con.proofs.Atoms.{name_moves, mark_moves}
+use Rattle.ur_parse_rules.proofs.Places.{name_moves, mark_moves}
 use Rattle.ur_parse_pat.proofs.Binders.{ignored, variable, no_binder}
 use Rattle.ur_parse_pat.proofs.binder.read_binder.Goals as goal
 

@@ -4,7 +4,7 @@ use Rattle.ur_lex.specs.declared.token.TokenKind.TheVariants as token
 use Rattle.ur_grammar.proofs.Choices.{starts_at, stops_first}
 use Rattle.ur_parse_rules.specs.Classes.{member, symbol_class, all_of}
 use Rattle.ur_parse_rules.specs.Ends.{binder_starts}
-use Rattle.ur_parse_con.proofs.Classed.{missing, stops_cons}
+use Rattle.ur_parse_rules.proofs.Places.{missing, stops_cons}
 use Rattle.ur_parse_pat.proofs.binder.sees_binder.Goals as goal
 
 pub returns-then-sees : goal.returns-then-sees

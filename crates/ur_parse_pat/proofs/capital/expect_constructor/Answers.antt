@@ -1,6 +1,6 @@
 use Rattle.ur_lex.specs.declared.token.TokenKind.TheVariants as token
 use Rattle.ur_parse_rules.specs.Words.{is_constructor}
-use Rattle.ur_parse_con.proofs.Naming.{passing_name}
+use Rattle.ur_parse_rules.proofs.Places.{passing_name}
 use Rattle.ur_parse_pat.proofs.capital.expect_constructor.Goals as goal
 
 pub returns-in_ok-text-clause-found : goal.returns-in_ok-text-clause-found

@@ -1,7 +1,7 @@
 use Rattle.ur_grammar.proofs.Tokens.{no_passing}
 use Rattle.ur_lex.specs.declared.token.TokenKind.TheVariants as token
 use Rattle.ur_parse_rules.specs.Words.{is_constructor}
-use Rattle.ur_parse_con.proofs.Naming.{passing}
+use Rattle.ur_parse_rules.proofs.Places.{passing}
 use Rattle.ur_parse_pat.proofs.capital.sees_constructor.Goals as goal
 
 pub returns-then-sees-clause-yes : goal.returns-then-sees-clause-yes

@@ -1,5 +1,5 @@
 use Rattle.ur_grammar.proofs.Steps.{passed, made}
-use Rattle.ur_parse_con.proofs.Atoms.{mark_moves, name_moves, moves_on}
+use Rattle.ur_parse_rules.proofs.Places.{mark_moves, name_moves, moves_on}
 use Rattle.ur_parse_pat.proofs.Binders.{stays_on}
 use Rattle.ur_parse_pat.proofs.Patterns.{wild_refused, wild_form, no_variable, variable_refused, variable_form, nil_refused, nil_form, minus_refused, negative_form}
 use Rattle.ur_parse_pat.proofs.pattern.form.Goals as goal

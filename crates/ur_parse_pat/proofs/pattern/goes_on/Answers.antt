@@ -1,7 +1,7 @@
 use Rattle.std.proofs.Common.{◌∙◌, sym, refl}
 use Rattle.ur_grammar.proofs.Choices.{starts_at}
 use Rattle.ur_parse_rules.specs.Classes.{member}
-use Rattle.ur_parse_con.proofs.Classed.{missing}
+use Rattle.ur_parse_rules.proofs.Places.{missing}
 use Rattle.ur_parse_pat.specs.Forms.{pat_more}
 use Rattle.ur_parse_pat.proofs.Patterns.{goes_on_by}
 use Rattle.ur_parse_pat.proofs.pattern.goes_on.Goals as goal

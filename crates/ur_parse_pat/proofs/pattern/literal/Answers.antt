@@ -1,5 +1,5 @@
 use Rattle.ur_grammar.proofs.Steps.{passed}
-use Rattle.ur_parse_con.proofs.Atoms.{mark_moves, name_moves}
+use Rattle.ur_parse_rules.proofs.Places.{mark_moves, name_moves}
 use Rattle.ur_parse_pat.proofs.Patterns.{no_string, string_form, int_form}
 use Rattle.ur_parse_pat.proofs.pattern.literal.Goals as goal
 

@@ -1,5 +1,5 @@
 use Rattle.ur_grammar.proofs.Steps.{passed}
-use Rattle.ur_parse_con.proofs.Atoms.{mark_moves, name_moves, moves_on}
+use Rattle.ur_parse_rules.proofs.Places.{mark_moves, name_moves, moves_on}
 use Rattle.ur_parse_pat.proofs.Binders.{stays_on}
 use Rattle.ur_parse_pat.proofs.Patterns.{true_form, false_form, none_form, some_refused, some_form, capital_refused, capital_form, none_begins}
 use Rattle.ur_parse_pat.proofs.pattern.word.Goals as goal

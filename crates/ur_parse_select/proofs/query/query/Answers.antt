@@ -1,6 +1,6 @@
 use Rattle.std.proofs.Common.{arith, sym, ◌∙◌}
 use Rattle.ur_grammar.proofs.Steps.{passed}
-use Rattle.ur_parse_con.proofs.Atoms.{mark_moves}
+use Rattle.ur_parse_rules.proofs.Places.{mark_moves}
 use Rattle.ur_parse_select.proofs.Querying.{select_missing, selection_refused, from_missing, item_refused, items_refused, filter_refused, group_refused, order_refused, limit_refused, offset_refused, query_more, query_read}
 use Rattle.ur_parse_select.proofs.query.query.Goals as goal
 

@@ -1,5 +1,5 @@
 use Rattle.ur_grammar.proofs.Steps.{passed, found_map, refused_map}
-use Rattle.ur_parse_con.proofs.Atoms.{name_moves, mark_moves, moves_on}
+use Rattle.ur_parse_rules.proofs.Places.{name_moves, mark_moves, moves_on}
 use Rattle.ur_parse_select.specs.Pieces.{no_as, no_name}
 use Rattle.ur_parse_select.proofs.Piecing.{called_by}
 use Rattle.ur_parse_select.proofs.selection.called.Goals as goal

@@ -1,6 +1,6 @@
 use Rattle.std.proofs.Common.{sym, ◌∙◌}
 use Rattle.ur_grammar.proofs.Steps.{passed}
-use Rattle.ur_parse_con.proofs.Atoms.{moves_on}
+use Rattle.ur_parse_rules.proofs.Places.{moves_on}
 use Rattle.ur_parse_select.proofs.Selecting.{aggregate_refused, aggregate_unnamed, aggregate_more, aggregate_read, column_refused, column_more, column_read, exp_refused, exp_unnamed, exp_more, exp_read}
 use Rattle.ur_parse_select.proofs.selection.selected.Goals as goal
 

@@ -1,5 +1,5 @@
 use Rattle.ur_grammar.proofs.Steps.{passed}
-use Rattle.ur_parse_con.proofs.Atoms.{name_moves, mark_moves, moves_on}
+use Rattle.ur_parse_rules.proofs.Places.{name_moves, mark_moves, moves_on}
 use Rattle.ur_parse_select.proofs.Naming.{name_read_plain, name_missing, module_missing, module_dot, member_missing, member_read}
 use Rattle.ur_parse_select.proofs.tables.table_name.Goals as goal
 

@@ -1,5 +1,5 @@
 use Rattle.ur_grammar.proofs.Steps.{passed}
-use Rattle.ur_parse_con.proofs.Atoms.{name_moves, mark_moves, moves_on}
+use Rattle.ur_parse_rules.proofs.Places.{name_moves, mark_moves, moves_on}
 use Rattle.ur_parse_sql.proofs.Columned.{table_missing, table_dot, table_field, table_dotted, table_read, no_column}
 use Rattle.ur_parse_sql.proofs.columns.column.Goals as goal
 

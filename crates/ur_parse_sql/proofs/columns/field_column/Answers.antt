@@ -1,6 +1,6 @@
 use Rattle.std.proofs.Common.{arith}
 use Rattle.ur_grammar.proofs.Steps.{passed}
-use Rattle.ur_parse_con.proofs.Atoms.{name_moves, mark_moves, moves_on}
+use Rattle.ur_parse_rules.proofs.Places.{name_moves, mark_moves, moves_on}
 use Rattle.ur_parse_sql.proofs.Columned.{qualifier_refused, bare_read, field_dot, field_name, field_read}
 use Rattle.ur_parse_sql.proofs.columns.field_column.Goals as goal
 

@@ -1,7 +1,7 @@
 use Rattle.std.proofs.Common.{refl, arith, ◌-◌}
 use Rattle.ur_grammar.specs.Rules.{nested}
 use Rattle.ur_grammar.proofs.Steps.{passed, made_deep, at_limit}
-use Rattle.ur_parse_con.proofs.Atoms.{mark_moves, moves_on}
+use Rattle.ur_parse_rules.proofs.Places.{mark_moves, moves_on}
 use Rattle.ur_parse_sql.proofs.Steps.{no_operator, steps_first, left_refused, steps_more, left_read, left_first}
 use Rattle.ur_parse_sql.proofs.Levels.{at_level, makes_level, sexp_refused, sexp_read, disjunction_refused, conjunction_refused, sum_refused, product_refused, disjunction_read, conjunction_read, sum_read, product_read}
 use Rattle.ur_parse_sql.proofs.Comparing.{no_sign, negation_refused, negation_read, compared_refused, compared_read, negative_refused, negative_read, atom_refused, atom_read, comparison_first, comparison_alone, right_refused, comparison_chained, comparison_read, null_refused, null_chained, null_read}

@@ -1,5 +1,5 @@
 use Rattle.ur_grammar.proofs.Steps.{passed}
-use Rattle.ur_parse_con.proofs.Atoms.{name_moves}
+use Rattle.ur_parse_rules.proofs.Places.{name_moves}
 use Rattle.ur_parse_xml.proofs.Attributed.{text_value, text_refused, no_value, code_refused, code_open, code_value}
 use Rattle.ur_parse_xml.proofs.attrs.attr_value.Goals as goal
 

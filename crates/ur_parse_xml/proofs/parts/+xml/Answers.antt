@@ -1,7 +1,7 @@
 use Rattle.std.proofs.Common.{refl, arith, sym, ◌∙◌, ◌-◌}
 use Rattle.ur_grammar.specs.Rules.{nested}
 use Rattle.ur_grammar.proofs.Steps.{passed, made_deep, at_limit}
-use Rattle.ur_parse_con.proofs.Atoms.{name_moves}
+use Rattle.ur_parse_rules.proofs.Places.{name_moves}
 use Rattle.ur_parse_xml.proofs.Elements.{parts_here, parts_refused, parts_more, parts_done, text_part, text_refused, element_part, element_refused, no_part, shown_part, shown_refused, splice_part, splice_refused, splice_open, element_begins, opening_refused, attributes_refused, end_refused, tags_differ, element_read, between_empty, no_end, inside_refused, no_closing, closing_refused, closing_open, between_read}
 use Rattle.ur_parse_xml.proofs.parts.+xml.Goals as goal
 

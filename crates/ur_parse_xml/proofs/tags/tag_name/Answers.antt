@@ -1,5 +1,5 @@
 use Rattle.ur_grammar.proofs.Steps.{passed}
-use Rattle.ur_parse_con.proofs.Atoms.{name_moves, mark_moves, moves_on}
+use Rattle.ur_parse_rules.proofs.Places.{name_moves, mark_moves, moves_on}
 use Rattle.ur_parse_xml.proofs.Tagged.{literal_read, variable_read, literal_refused, no_tag_name}
 use Rattle.ur_parse_xml.proofs.tags.tag_name.Goals as goal
 
