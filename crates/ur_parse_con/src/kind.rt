@@ -15,10 +15,6 @@ use ur_grammar::{
 use ur_lex::{Symbol, TokenKind, Tokens};
 use ur_syntax::Kind;
 
-/// The greatest number of parentheses around a kind, which no tree shows, and of `$` before a constructor: the stack is
-/// memory, and more is want of memory.
-pub const MAX_PARENTHESES: usize = 1024;
-
 /// Kinds with `->` between, which groups to the right, in at most `levels` parentheses.
 #[cycle(kinds)]
 pub fn kind(alloc: Global, tokens: &Tokens, at: usize, levels: usize) -> Result<Parsed<Kind>, Stop>

@@ -15,12 +15,10 @@ use ur_base::Stop;
 use ur_lex::Tokens;
 use ur_parse_change::read_change;
 use ur_parse_code::{Quotes, Range};
+use ur_parse_con::MAX_NESTING;
 use ur_parse_select::read_query;
 use ur_parse_xml::read_literal;
 use ur_syntax::{SqlChange, SqlQuery, Xml};
-
-/// The greatest number of expressions of SQL and elements one in the other.
-pub const MAX_NESTING: usize = 256;
 
 /// The greatest number of signs before an expression, `NOT` and `-`: the stack is memory, and more is want of memory.
 pub const MAX_SIGNS: usize = 1024;

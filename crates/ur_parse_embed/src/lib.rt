@@ -3,4 +3,4 @@
 
 mod embedded;
 
-pub use embedded::{MAX_NESTING, MAX_SIGNS, Skeleton, sql_change, sql_query, xml};
+pub use embedded::{MAX_SIGNS, Skeleton, sql_change, sql_query, xml};

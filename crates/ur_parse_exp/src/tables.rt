@@ -20,7 +20,7 @@ use ur_syntax::{Exp, SqlChange, SqlQuery};
 
 /// The greatest nesting of SQL that nests too deep and whose code is looked at still: the stack is memory, and more is
 /// want of memory.
-const MAX_PARENTHESES: usize = 512;
+const MAX_SQL_NESTING: usize = 512;
 
 /// The code of antiquotes and of attributes behind a place, where `less` fewer expressions may nest than each range says.
 #[cycle(exp)]
@@ -106,13 +106,13 @@ fn query_again(
     ensures refused { OfRefusal first (λ r. Refuses language depth tokens.now at (of_sql raw part.query) r) → IfRefused result (λ r. Refuses language depth tokens.now at (of_sql expressions part.query) r) }
 {
     deeper(first)?;
-    if MAX_PARENTHESES < depth {
+    if MAX_SQL_NESTING < depth {
         return Err(Stop::Memory);
     }
     let mut quotes = Quotes::new(alloc);
-    match read_query(alloc, tokens, at, MAX_PARENTHESES, levels, &mut quotes) {
+    match read_query(alloc, tokens, at, MAX_SQL_NESTING, levels, &mut quotes) {
         Ok((_tree, _end)) => {
-            let less = MAX_PARENTHESES - depth;
+            let less = MAX_SQL_NESTING - depth;
             let (_exps, _attributes) = all_codes(alloc, tokens, at, &quotes, less, levels)?;
             Err(too_deep(alloc, tokens, at))
         }
@@ -164,13 +164,13 @@ fn change_again(
     ensures refused { OfRefusal first (λ r. Refuses language depth tokens.now at (of_sql raw part.change) r) → IfRefused result (λ r. Refuses language depth tokens.now at (of_sql expressions part.change) r) }
 {
     deeper(first)?;
-    if MAX_PARENTHESES < depth {
+    if MAX_SQL_NESTING < depth {
         return Err(Stop::Memory);
     }
     let mut quotes = Quotes::new(alloc);
-    match read_change(alloc, tokens, at, MAX_PARENTHESES, levels, &mut quotes) {
+    match read_change(alloc, tokens, at, MAX_SQL_NESTING, levels, &mut quotes) {
         Ok((_tree, _end)) => {
-            let less = MAX_PARENTHESES - depth;
+            let less = MAX_SQL_NESTING - depth;
             let (_exps, _attributes) = all_codes(alloc, tokens, at, &quotes, less, levels)?;
             Err(too_deep(alloc, tokens, at))
         }

@@ -12,11 +12,8 @@ use std::alloc::Global;
 use ur_base::{List, Stop};
 use ur_grammar::{pushed, unexpected};
 use ur_lex::Tokens;
-use ur_parse_con::MAX_PARENTHESES;
+use ur_parse_con::{MAX_NESTING, MAX_PARENTHESES};
 use ur_syntax::{Decl, Module};
-
-/// The greatest number of constructors, expressions, expressions of SQL and elements within one another.
-const MAX_NESTING: usize = 256;
 
 /// The module that the tokens spell.
 pub fn parse(alloc: Global, tokens: &Tokens) -> Result<Module, Stop>

@@ -11,11 +11,8 @@ use std::alloc::Global;
 use ur_base::{List, Stop};
 use ur_grammar::{pushed, sees, unexpected};
 use ur_lex::{Keyword, TokenKind, Tokens};
-use ur_parse_con::MAX_PARENTHESES;
+use ur_parse_con::{MAX_NESTING, MAX_PARENTHESES};
 use ur_syntax::{Signature, ValDecl};
-
-/// The greatest number of constructors within one another.
-const MAX_NESTING: usize = 256;
 
 /// The signature that the tokens spell.
 pub fn parse_signature(alloc: Global, tokens: &Tokens) -> Result<Signature, Stop>

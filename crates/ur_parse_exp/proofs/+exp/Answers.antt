@@ -819,7 +819,7 @@ tables::query_again-returns-in_err-_exps-in-Ok-clause-refused t c = λ h. let f 
     passed _ _ c.from_residual-in_err-_exps-in-Ok.ensures.1 c.in_err-_exps-in-Ok.ensures.refused (λ r k. skeletons.none_refused tables.queries (skeletons.skeleton_of tables.queries c.args.tokens.now 512 c.args.at c.in-Ok._end q.exps q.attributes f.read f.made) k)
 
 pub tables::query_again-returns-in-Ok-clause-refused : goal.tables::query_again-returns-in-Ok-clause-refused
-tables::query_again-returns-in-Ok-clause-refused t c = λ h. let f = c.in-Ok.ensures.found in let q = c.new-quotes.ensures in let a = c.in_ok-_exps-in-Ok.ensures.found in let l = c.if-depth-gt-MAX_PARENTHESES.false in
+tables::query_again-returns-in-Ok-clause-refused t c = λ h. let f = c.in-Ok.ensures.found in let q = c.new-quotes.ensures in let a = c.in_ok-_exps-in-Ok.ensures.found in let l = c.if-depth-gt-MAX_SQL_NESTING.false in
     made_deep _ c.too_deep.ensures (λ r k. skeletons.open_beyond tables.queries (skeletons.skeleton_of tables.queries c.args.tokens.now 512 c.args.at c.in-Ok._end q.exps q.attributes f.read f.made) (512 - c.args.depth) c.args.depth (omega arith) (omega (arith, l)) k
     a.exps_read.known a.attributes_read.known (skeletons.first_deep tables.queries c.args.depth (drop c.args.at c.args.tokens.now) c.args.first h c.in_ok-deeper.ensures.found))
 
@@ -853,7 +853,7 @@ tables::change_again-returns-in_err-_exps-in-Ok-clause-refused t c = λ h. let f
     passed _ _ c.from_residual-in_err-_exps-in-Ok.ensures.1 c.in_err-_exps-in-Ok.ensures.refused (λ r k. skeletons.none_refused tables.changes (skeletons.skeleton_of tables.changes c.args.tokens.now 512 c.args.at c.in-Ok._end q.exps q.attributes f.read f.made) k)
 
 pub tables::change_again-returns-in-Ok-clause-refused : goal.tables::change_again-returns-in-Ok-clause-refused
-tables::change_again-returns-in-Ok-clause-refused t c = λ h. let f = c.in-Ok.ensures.found in let q = c.new-quotes.ensures in let a = c.in_ok-_exps-in-Ok.ensures.found in let l = c.if-depth-gt-MAX_PARENTHESES.false in
+tables::change_again-returns-in-Ok-clause-refused t c = λ h. let f = c.in-Ok.ensures.found in let q = c.new-quotes.ensures in let a = c.in_ok-_exps-in-Ok.ensures.found in let l = c.if-depth-gt-MAX_SQL_NESTING.false in
     made_deep _ c.too_deep.ensures (λ r k. skeletons.open_beyond tables.changes (skeletons.skeleton_of tables.changes c.args.tokens.now 512 c.args.at c.in-Ok._end q.exps q.attributes f.read f.made) (512 - c.args.depth) c.args.depth (omega arith) (omega (arith, l)) k
     a.exps_read.known a.attributes_read.known (skeletons.first_deep tables.changes c.args.depth (drop c.args.at c.args.tokens.now) c.args.first h c.in_ok-deeper.ensures.found))
 
