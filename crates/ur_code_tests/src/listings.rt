@@ -3,9 +3,9 @@ use crate::codes::code_of;
 use std::alloc::Global;
 use ur_base::{Boxed, List, Memory, Name, Text};
 use ur_code::Code;
-use ur_listing::{listing, type_text};
+use ur_listing::listing;
 use ur_terms::{Function, Term};
-use ur_types::{TypeField, ValueType};
+use ur_types::{TypeField, ValueType, type_text};
 
 fn names(alloc: Global) -> Result<List<Text>, Memory> {
     let mut names = List::new(alloc);

@@ -2,12 +2,11 @@
 ghost use Rattle.std.specs.Prelude.{◌≡◌, ◌++◌, IfOk, OnOk};
 ghost use Rattle.ur_listing.specs.Texts.{params_text, result_text, function_text, listing_text};
 
-use crate::types::{write_around, write_type};
 use std::alloc::Global;
 use ur_base::{List, Memory, Text};
 use ur_code::Code;
 use ur_terms::Function;
-use ur_types::ValueType;
+use ur_types::{ValueType, write_around, write_type};
 
 /// A line for each function, in the order of their numbers: its name and its type.
 pub fn listing(alloc: Global, code: &Code) -> Result<Text, Memory>

@@ -1,7 +1,7 @@
 -- What the two texts of a misfit are.
 use Rattle.std.specs.Prelude.{◌≡◌, ◌≢◌, ℕ, ◌≤◌, if◌then◌else◌, List, [], ◌∷◌, codes, bytes_eq, take, length, min, slice_get, Some}
 use Rattle.ur_types.specs.declared.types.ValueType.{ValueType}
-use Rattle.ur_listing.specs.Texts.{Names, type_text}
+use Rattle.ur_types.specs.Texts.{Names, type_text}
 
 -- in place of two texts that are the same
 abbrev pub same_texts : List ℕ × List ℕ

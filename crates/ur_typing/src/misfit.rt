@@ -5,8 +5,7 @@ ghost use Rattle.ur_typing.specs.Saying.{same_texts, told_apart, two_types, one_
 use std::alloc::Global;
 use ur_base::{List, Memory, Text};
 use ur_code::Code;
-use ur_listing::type_text;
-use ur_types::{ValueType, same_type};
+use ur_types::{ValueType, same_type, type_text};
 
 /// Two texts that differ: what was found, a type or one of two words, and what was wanted.
 #[derive(Drop)]

@@ -1,11 +1,11 @@
 //! Types as text.
 ghost use Rattle.std.specs.Prelude.{◌≡◌, ◌++◌, codes, slice_index_or, IfOk, OnOk, []};
 ghost use Rattle.std.specs.Fmt.{decimal};
-ghost use Rattle.ur_listing.specs.Texts as texts;
+ghost use Rattle.ur_types.specs.Texts as texts;
 
+use crate::types::{TypeField, ValueType};
 use std::alloc::Global;
 use ur_base::{List, Memory, Name, Text};
-use ur_types::{TypeField, ValueType};
 
 /// A type as text; the names of its fields are these, by number.
 pub fn type_text(alloc: Global, names: &[Text], of: &ValueType) -> Result<Text, Memory>
@@ -19,7 +19,7 @@ pub fn type_text(alloc: Global, names: &[Text], of: &ValueType) -> Result<Text, 
 /// Writes a type at the end of a text.
 #[cycle(writing)]
 #[tactic(auto, using(crate::proofs::Equations::types))]
-pub(crate) fn write_type(
+pub fn write_type(
     alloc: Global,
     out: &mut Text,
     names: &[Text],
@@ -45,7 +45,7 @@ pub(crate) fn write_type(
 
 /// Writes a word and then a type, which stands in parentheses unless it is plain.
 #[cycle(writing)]
-pub(crate) fn write_around(
+pub fn write_around(
     alloc: Global,
     out: &mut Text,
     names: &[Text],
