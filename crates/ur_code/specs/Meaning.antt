@@ -3,7 +3,7 @@ use Rattle.std.specs.Prelude.{ℕ, Bool, if◌then◌else◌, nat_le, List, Opti
 use Rattle.std.specs.List.{list_all}
 use Rattle.ur_values.specs.declared.value.Value.{Value}
 use Rattle.ur_values.specs.declared.value.Call.{Call}
-use Rattle.ur_values.specs.Size.{size}
+use Rattle.ur_values.specs.Size.{greatest_size, size}
 use Rattle.ur_values.specs.Sql.{Sql}
 use Rattle.ur_values.specs.Store.{Row, Store}
 use Rattle.ur_sql.specs.Sql.{sql_of}
@@ -19,7 +19,7 @@ code_sql code = sql_of code.schema code.queries code.changes
 
 -- values that may stand in a table
 abbrev pub is_storable : Row → Bool
-is_storable = list_all (λ x. nat_le (size x) 16777216)
+is_storable = list_all (λ x. nat_le (size x) greatest_size)
 
 -- a store of such values
 abbrev pub are_storable : Store → Bool

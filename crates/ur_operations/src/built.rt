@@ -7,10 +7,7 @@ ghost use Rattle.ur_operations.specs.Comes.{Comes};
 use std::alloc::Global;
 use ur_base::{List, Memory};
 use ur_frames::Performed;
-use ur_values::{Node, Value};
-
-/// The greatest size of a value that a request builds.
-const GREATEST_SIZE: u64 = 16777216;
+use ur_values::{GREATEST_SIZE, Node, Value};
 
 /// The greatest nesting of a value that a request builds.
 const GREATEST_NESTING: u32 = 1024;

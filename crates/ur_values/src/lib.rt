@@ -16,4 +16,5 @@ pub use compare::compare_values;
 pub use copy::copy_values;
 pub use same::same_values;
 pub use schema::{ColumnKind, Numbered, Schema, TableShape};
+pub use size::GREATEST_SIZE;
 pub use value::{Call, FieldKind, Node, Row, Tag, Value};
