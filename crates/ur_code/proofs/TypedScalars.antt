@@ -17,7 +17,7 @@ use Rattle.ur_sql.specs.declared.scalar.Scalar.TheVariants as s
 use Rattle.ur_sql.specs.Scalar.{value_of, on_ints, int_neg, is_true, compares}
 use Rattle.ur_sql.specs.Typing.{Kinds, HasKind, ReadsOnly}
 use Rattle.ur_sql.proofs.Typed.{value_fits}
-use Rattle.ur_code.specs.RowType.{constant_kind, scalar_kind}
+use Rattle.ur_sql.specs.Kinds.{constant_kind, scalar_kind}
 
 constant_there : (x : Value) (k : ColumnKind) → FitsKind x k → constant_kind x ≡ Some k
 constant_there (v.Int i) kind.Int h = refl

@@ -1,14 +1,10 @@
 -- The first-order type of a query's answer rows.
-use Rattle.std.specs.Prelude.{List, [], ◌∷◌, map, Option, Some, None, option_map, unwrap_or, slice_get}
+use Rattle.std.specs.Prelude.{List, [], ◌∷◌, map, Option, Some, None, option_map, unwrap_or}
 use Rattle.ur_base.specs.declared.names.Name.{Name}
 use Rattle.ur_types.specs.declared.types.ValueType.{ValueType}
 use Rattle.ur_types.specs.declared.types.ValueType.TheVariants as ty
 use Rattle.ur_values.specs.declared.schema.ColumnKind.{ColumnKind}
 use Rattle.ur_values.specs.declared.schema.ColumnKind.TheVariants as kind
-use Rattle.ur_values.specs.declared.value.Value.{Value}
-use Rattle.ur_values.specs.declared.value.Value.TheVariants as v
-use Rattle.ur_sql.specs.declared.scalar.Scalar.{Scalar}
-use Rattle.ur_sql.specs.declared.scalar.Scalar.TheVariants as s
 use Rattle.ur_sql.specs.declared.query.Query.{Query}
 use Rattle.ur_sql.specs.declared.query.ColumnAt.{ColumnAt}
 use Rattle.ur_sql.specs.declared.query.Field.{Field}
@@ -16,32 +12,13 @@ use Rattle.ur_sql.specs.declared.query.Field.TheVariants as field
 use Rattle.ur_sql.specs.declared.query.Aggregate.{Aggregate}
 use Rattle.ur_sql.specs.declared.query.Aggregate.TheVariants as agg
 use Rattle.ur_sql.specs.Typing.{Kinds, column_kind, kinds_in}
+use Rattle.ur_sql.specs.Kinds.{scalar_kind}
 use Rattle.ur_terms.specs.Types.{record_type, unit_type}
 
 abbrev pub kind_type : ColumnKind → ValueType
 kind_type kind.Int = ty.Int
 kind_type kind.Str = ty.Str
 kind_type kind.Bool = ty.Bool
-
-abbrev pub constant_kind : Value → Option ColumnKind
-constant_kind (v.Int i) = Some kind.Int
-constant_kind (v.Str t) = Some kind.Str
-constant_kind (v.Bool b) = Some kind.Bool
-constant_kind _ = None
-
--- the kind of an expression's values
-abbrev pub scalar_kind : Kinds → Scalar → Option ColumnKind
-scalar_kind ks (s.Constant x) = constant_kind x
-scalar_kind ks (s.Column i c) = column_kind ks i c
-scalar_kind ks (s.Param n) = slice_get ks.params n
-scalar_kind ks (s.Or' _ a _ b) = Some kind.Bool
-scalar_kind ks (s.And' _ a _ b) = Some kind.Bool
-scalar_kind ks (s.Not' _ a) = Some kind.Bool
-scalar_kind ks (s.Compare' c _ a _ b) = Some kind.Bool
-scalar_kind ks (s.Add' _ a _ b) = Some kind.Int
-scalar_kind ks (s.Sub' _ a _ b) = Some kind.Int
-scalar_kind ks (s.Mul' _ a _ b) = Some kind.Int
-scalar_kind ks (s.Neg' _ a) = Some kind.Int
 
 abbrev pub both_there : {A : Type 0} → Option A → Option (List A) → Option (List A)
 both_there (Some x) (Some xs) = Some (x ∷ xs)

@@ -13,7 +13,7 @@ use Rattle.ur_sql.specs.declared.scalar.Scalar.{Scalar, more_of-Scalar as one, e
 use Rattle.ur_sql.specs.declared.scalar.Scalar.TheBlock as block
 use Rattle.ur_sql.specs.declared.scalar.Scalar.TheVariants as s
 use Rattle.ur_sql.specs.Typing.{Kinds, Compares, HasKind, HasSomeKind, ReadsOnly}
-use Rattle.ur_fits.specs.Scope.{value_kind, head_kind}
+use Rattle.ur_sql.specs.Kinds.{constant_kind, scalar_kind}
 
 itself : {A : Type 0} → A ↔ A
 itself = ((λ a. a), (λ a. a))
@@ -52,14 +52,14 @@ module _ (ks : Kinds) where
   unfolding block.hidden-the_row-Scalar-0 Carrier.hidden
   kind_Compare c a b k = itself
 
-  value_head : (x : Value) (k : ColumnKind) → FitsKind x k → value_kind x ≡ Some k
+  value_head : (x : Value) (k : ColumnKind) → FitsKind x k → constant_kind x ≡ Some k
   value_head (v.Int i) kind.Int h = refl
   value_head (v.Str t) kind.Str h = refl
   value_head (v.Bool b) kind.Bool h = refl
   value_head _ _ h = absurd h
 
   -- what stands at the head decides the kind
-  pub head_is : (e : Scalar) (k : ColumnKind) → HasKind ks e k → head_kind ks e ≡ Some k
+  pub head_is : (e : Scalar) (k : ColumnKind) → HasKind ks e k → scalar_kind ks e ≡ Some k
   head_is (s.Constant x) k h = value_head x k h
   head_is (s.Column i c) k h = h
   head_is (s.Param n) k h = h
@@ -78,8 +78,8 @@ module _ (ks : Kinds) where
       apart : {k : ColumnKind} → None ≡ Some k → ⊥
       apart e = cc
 
-  only : (a x : Scalar) (of j : ColumnKind) → x ≡ a → head_kind ks x ≡ Some of → HasKind ks a j → j ≡ of
-  only a x of j f e h = some_same (sym (head_is a j h) ∙ ap (head_kind ks) (sym f) ∙ e)
+  only : (a x : Scalar) (of j : ColumnKind) → x ≡ a → scalar_kind ks x ≡ Some of → HasKind ks a j → j ≡ of
+  only a x of j f e h = some_same (sym (head_is a j h) ∙ ap (scalar_kind ks) (sym f) ∙ e)
     where
       some_same : {m n : ColumnKind} → Some m ≡ Some n → m ≡ n
       some_same e = cc
@@ -88,17 +88,17 @@ module _ (ks : Kinds) where
   kind_of_Compare by c a b k is q = ((kind_Compare c a b k).0 (subst (λ z. HasKind ks z k) is q)).0
 
   -- what has a kind has the one at its head
-  pub some_kind : (e : Scalar) (of : ColumnKind) → head_kind ks e ≡ Some of → (r : Bool) → IsTrue r ↔ HasKind ks e of → IsTrue r ↔ HasSomeKind ks e
+  pub some_kind : (e : Scalar) (of : ColumnKind) → scalar_kind ks e ≡ Some of → (r : Bool) → IsTrue r ↔ HasKind ks e of → IsTrue r ↔ HasSomeKind ks e
   some_kind e of h r w = ((λ q. (of, w.0 q)), (λ k. w.1 (subst (HasKind ks e) (only e e of k.0 refl h k.1) k.1)))
 
   -- a comparison of what has no kind
-  pub compare_none : (by : Scalar) (c : Comparison) (a b x : Scalar) (k : ColumnKind) → by ≡ s.Compare c a b → x ≡ a → head_kind ks x ≡ None → HasKind ks by k → ⊥
+  pub compare_none : (by : Scalar) (c : Comparison) (a b x : Scalar) (k : ColumnKind) → by ≡ s.Compare c a b → x ≡ a → scalar_kind ks x ≡ None → HasKind ks by k → ⊥
   compare_none by c a b x k is f e q =
       let h = (kind_Compare c a b k).0 (subst (λ z. HasKind ks z k) is q) in
-      none_some (sym e ∙ ap (head_kind ks) f ∙ head_is a h.1.0 h.1.1)
+      none_some (sym e ∙ ap (scalar_kind ks) f ∙ head_is a h.1.0 h.1.1)
 
   -- what a comparison of this kind asks for
-  pub compare_parts : (by : Scalar) (c : Comparison) (a b x : Scalar) (k of : ColumnKind) → by ≡ s.Compare c a b → x ≡ a → head_kind ks x ≡ Some of → HasKind ks by k
+  pub compare_parts : (by : Scalar) (c : Comparison) (a b x : Scalar) (k of : ColumnKind) → by ≡ s.Compare c a b → x ≡ a → scalar_kind ks x ≡ Some of → HasKind ks by k
       → (k ≡ kind.Bool) × HasKind ks a of × HasKind ks b of × Compares c of
   compare_parts by c a b x k of is f e q =
       let h = (kind_Compare c a b k).0 (subst (λ z. HasKind ks z k) is q) in

@@ -1,7 +1,8 @@
 //! Columns, antiquotes and values of a kind.
 ghost use Rattle.std.specs.Prelude.{◌≡◌, ◌↔◌, IsTrue, Some, IsSome, IfOk, Contains, slice_get};
 ghost use Rattle.ur_values.specs.Store.{FitsKind};
-ghost use Rattle.ur_fits.specs.Scope.{columns_of, kind_in, value_kind};
+ghost use Rattle.ur_sql.specs.Kinds.{constant_kind};
+ghost use Rattle.ur_fits.specs.Scope.{columns_of, kind_in};
 
 use std::alloc::Global;
 use std::str;
@@ -61,7 +62,7 @@ fn bool_fits(holds: bool, kind: ColumnKind) -> bool
 
 /// The kind of a constant.
 pub fn value_kind(value: &Value) -> Option<ColumnKind>
-    ensures { result ≡ value_kind value.now }
+    ensures { result ≡ constant_kind value.now }
 {
     match value {
         Value::Int(_) => Some(ColumnKind::Int),

@@ -1,7 +1,8 @@
 //! Kinds of expressions, and the columns that they read.
 ghost use Rattle.std.specs.Prelude.{◌≡◌, ◌≢◌, ◌↔◌, IsTrue};
 ghost use Rattle.ur_sql.specs.Typing.{Compares, HasKind, HasSomeKind, ReadsOnly};
-ghost use Rattle.ur_fits.specs.Scope.{head_kind, scope};
+ghost use Rattle.ur_sql.specs.Kinds.{scalar_kind};
+ghost use Rattle.ur_fits.specs.Scope.{scope};
 
 use crate::columns::{column_kind, fits_kind, has_column, is_kind, kind_at, value_kind};
 use ur_base::List;
@@ -106,7 +107,7 @@ fn compares(comparison: Comparison, kind: ColumnKind) -> bool
 
 /// The kind that an expression has, if it has one: what stands at its head decides it.
 fn head_kind(by: &Scalar, params: &[ColumnKind], items: &[List<ColumnKind>]) -> Option<ColumnKind>
-    ensures { result ≡ head_kind (scope params.now items.now) by.now }
+    ensures { result ≡ scalar_kind (scope params.now items.now) by.now }
 {
     match by {
         Scalar::Constant(value) => value_kind(value),

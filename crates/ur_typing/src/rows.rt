@@ -2,6 +2,7 @@
 ghost use Rattle.std.specs.Prelude.{◌≡◌, IfOk, map, Some, slice_get, option_map};
 ghost use Rattle.ur_types.specs.declared.types.ValueType.TheVariants as ty;
 ghost use Rattle.ur_sql.specs.Typing.{Kinds, column_kind, kinds_in};
+ghost use Rattle.ur_sql.specs.Kinds.{constant_kind, scalar_kind};
 ghost use Rattle.ur_terms.specs.Types.{unit_type, record_type};
 ghost use Rattle.ur_code.specs.RowType as row;
 ghost use Rattle.ur_code.specs.RouteTypes as route;
@@ -54,7 +55,7 @@ fn column_kind(query: &Query, item: u32, column: u32) -> Option<ColumnKind>
 }
 
 fn constant_kind(value: &Value) -> Option<ColumnKind>
-    ensures { result ≡ row.constant_kind value.now }
+    ensures { result ≡ constant_kind value.now }
 {
     match value {
         Value::Int(_) => Some(ColumnKind::Int),
@@ -70,7 +71,7 @@ fn constant_kind(value: &Value) -> Option<ColumnKind>
 }
 
 fn scalar_kind(query: &Query, by: &Scalar) -> Option<ColumnKind>
-    ensures { result ≡ row.scalar_kind (kinds_in query.now) by.now }
+    ensures { result ≡ scalar_kind (kinds_in query.now) by.now }
 {
     match by {
         Scalar::Constant(value) => constant_kind(value),
