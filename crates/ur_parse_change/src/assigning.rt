@@ -15,7 +15,7 @@ use ur_base::{List, Stop};
 use ur_grammar::{expect, pushed, sees};
 use ur_lex::{Symbol, TokenKind, Tokens};
 use ur_parse_code::Quotes;
-use ur_parse_con::expect_field;
+use ur_parse_rules::expect_field;
 use ur_parse_select::read_exp;
 use ur_parse_sql::{comma_or, finished, sees_operator};
 use ur_syntax::Assignment;

@@ -17,7 +17,7 @@ use ur_base::Stop;
 use ur_grammar::{expect, expect_word, sees_word, span};
 use ur_lex::{Symbol, TokenKind, Tokens};
 use ur_parse_code::Quotes;
-use ur_parse_con::expect_field;
+use ur_parse_rules::expect_field;
 use ur_parse_select::{list_of, read_exp, read_filter, read_table_name};
 use ur_parse_sql::{comma_or, finished, sees_operator, word_or};
 use ur_syntax::SqlChange;

@@ -12,7 +12,7 @@ use ur_base::{List, Stop, Text};
 use ur_grammar::{expect, pushed, sees};
 use ur_lex::{Symbol, TokenKind, Tokens};
 use ur_parse_code::Quotes;
-use ur_parse_con::expect_field;
+use ur_parse_rules::expect_field;
 use ur_parse_select::read_exp;
 use ur_syntax::SqlExp;
 

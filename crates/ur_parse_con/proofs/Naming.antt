@@ -1,8 +1,6 @@
--- Words and names.
-use Rattle.std.specs.Prelude.{◌≡◌, ◌+◌, Bool, true, false, ◌||◌, List, [], ◌∷◌, ◌++◌, refl}
-use Rattle.std.proofs.Common.{sym, ◌∙◌, ap}
-use Rattle.std.proofs.lemmas.List.Folds.{list_any-append}
-use Rattle.std.specs.Str.{bytes_eq}
+-- What arguments begin with, and what stands behind a constructor.
+use Rattle.std.specs.Prelude.{◌≡◌, Bool, true, false, ◌||◌, List, [], ◌∷◌, refl}
+use Rattle.std.proofs.Common.{sym, ◌∙◌}
 use Rattle.ur_lex.specs.declared.token.Keyword.{Keyword}
 use Rattle.ur_lex.specs.declared.token.Keyword.TheVariants as keyword
 use Rattle.ur_lex.specs.declared.token.Symbol.{Symbol}
@@ -10,24 +8,14 @@ use Rattle.ur_lex.specs.declared.token.Symbol.TheVariants as symbol
 use Rattle.ur_lex.specs.declared.token.TokenKind.{TokenKind}
 use Rattle.ur_lex.specs.declared.token.TokenKind.TheVariants as token
 use Rattle.ur_lex.specs.declared.token.Lexeme.{Lexeme}
-use Rattle.ur_lex.specs.Spelling.{Text, is_among}
+use Rattle.ur_lex.specs.Spelling.{Text}
 use Rattle.ur_grammar.specs.Rules.{Stops}
 use Rattle.ur_grammar.specs.Places.{starts}
 use Rattle.ur_parse_rules.specs.Classes.{member, in_class, symbol_class}
 use Rattle.ur_parse_rules.specs.Ends.{con_args, con_more}
-use Rattle.ur_parse_rules.specs.Words.{sql_words, is_free}
+use Rattle.ur_parse_rules.specs.Words.{is_free}
 use Rattle.ur_parse_rules.proofs.Tests.{false_true}
 use Rattle.ur_parse_con.specs.Names.{begins_symbol, begins_argument}
-use Rattle.ur_parse_con.specs.Words.{table_words, query_words, choice_words, change_words, value_words}
-
-grouped : sql_words ≡ table_words ++ (query_words ++ (choice_words ++ (change_words ++ value_words)))
-grouped = refl
-
--- the words of SQL are those of the groups
-pub in_groups : (w : Text) → is_among sql_words w ≡ (is_among table_words w || (is_among query_words w || (is_among choice_words w || (is_among change_words w || is_among value_words w))))
-in_groups w = let p = bytes_eq w in list_any-append p table_words (query_words ++ (choice_words ++ (change_words ++ value_words)))
-    ∙ ap (λ z. is_among table_words w || z) (list_any-append p query_words (choice_words ++ (change_words ++ value_words))
-    ∙ ap (λ z. is_among query_words w || z) (list_any-append p choice_words (change_words ++ value_words) ∙ ap (λ z. is_among choice_words w || z) (list_any-append p change_words value_words)))
 
 -- ---- what arguments begin with
 

@@ -17,4 +17,3 @@ pub use kind::{kind as read_kind, taller};
 pub use limits::{MAX_NESTING, MAX_PARENTHESES};
 pub use names::expect_field_name;
 pub use param::con_param as read_con_param;
-pub use words::expect_field;

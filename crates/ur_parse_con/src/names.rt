@@ -9,11 +9,12 @@ ghost use Rattle.ur_parse_rules.specs.Language.{language};
 ghost use Rattle.ur_parse_con.specs.Names.{begins_symbol, begins_argument, NoneOpens};
 
 use crate::nodes::leaf;
-use crate::words::{expect_field, expect_module, is_free};
+use crate::words::{expect_module, is_free};
 use std::alloc::Global;
 use ur_base::Stop;
 use ur_grammar::{Parsed, expect, expect_name, peek, sees, span};
 use ur_lex::{Symbol, TokenKind, Tokens};
+use ur_parse_rules::expect_field;
 use ur_syntax::{Con, ConForm, FieldName};
 
 fn begins_symbol(symbol: Symbol) -> bool

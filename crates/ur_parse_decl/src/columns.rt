@@ -12,7 +12,7 @@ use std::alloc::Global;
 use ur_base::{List, Span, Stop, Text};
 use ur_grammar::{expect, pushed, sees, sees_word, span};
 use ur_lex::{Symbol, TokenKind, Tokens};
-use ur_parse_con::expect_field;
+use ur_parse_rules::expect_field;
 
 /// The columns of a key, with the span where they end and the place behind them.
 #[derive(Drop)]

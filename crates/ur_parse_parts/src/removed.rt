@@ -9,7 +9,7 @@ use std::alloc::Global;
 use ur_base::Stop;
 use ur_grammar::{expect_name, sees, span};
 use ur_lex::{Symbol, TokenKind, Tokens};
-use ur_parse_con::expect_field;
+use ur_parse_rules::expect_field;
 use ur_syntax::{FieldName, Removed};
 
 /// `#A`, `A` or a variable, and the place behind it.

@@ -7,6 +7,7 @@ pub mod Table
 pub mod Leads
 pub mod Choice
 pub mod Places
+pub mod Grouped
 pub mod Watches
 pub mod RawCode
 pub mod Special

@@ -1,5 +1,6 @@
 pub mod Classes
 pub mod Words
+pub mod WordGroups
 pub mod Quoted
 pub mod ConParts
 pub mod ExpParts

@@ -18,7 +18,7 @@ use ur_base::{List, Stop, Text};
 use ur_grammar::{expect, expect_word, pushed, sees, sees_word, span};
 use ur_lex::{Symbol, TokenKind, Tokens};
 use ur_parse_code::Quotes;
-use ur_parse_con::expect_field;
+use ur_parse_rules::expect_field;
 use ur_parse_sql::{comma_or, finished, read_column, sees_operator, word_or};
 use ur_syntax::{Aggregate, Selected, Selection, SqlExp};
 

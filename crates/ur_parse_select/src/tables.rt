@@ -10,7 +10,7 @@ use std::alloc::Global;
 use ur_base::{Stop, Text};
 use ur_grammar::{expect, expect_name, sees, sees_word, span};
 use ur_lex::{Symbol, TokenKind, Tokens};
-use ur_parse_con::expect_field;
+use ur_parse_rules::expect_field;
 use ur_parse_sql::{finished, word_or};
 use ur_syntax::{DeclName, FromItem};
 

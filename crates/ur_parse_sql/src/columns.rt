@@ -17,7 +17,7 @@ use ur_base::{Span, Stop, Text};
 use ur_grammar::{expect, expect_name, sees, span};
 use ur_lex::{Symbol, TokenKind, Tokens};
 use ur_parse_code::absent;
-use ur_parse_con::expect_field;
+use ur_parse_rules::expect_field;
 use ur_syntax::{SqlExp, SqlForm};
 
 /// `.A`, or nothing.

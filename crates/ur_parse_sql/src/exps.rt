@@ -18,7 +18,7 @@ use ur_base::Stop;
 use ur_grammar::{Parsed, below, expect, sees, sees_word, span, too_deep};
 use ur_lex::{Symbol, TokenKind, Tokens};
 use ur_parse_code::{Quotes, shown};
-use ur_parse_con::expect_field;
+use ur_parse_rules::expect_field;
 use ur_syntax::{SqlExp, SqlForm};
 
 /// An expression with at most `depth` nested, itself among them, and at most `levels` signs before an expression. Where it

@@ -11,7 +11,7 @@ use ur_base::Stop;
 use ur_grammar::{expect, expect_name, sees};
 use ur_lex::{Symbol, TokenKind, Tokens};
 use ur_parse_code::absent;
-use ur_parse_con::expect_field;
+use ur_parse_rules::expect_field;
 use ur_syntax::{Tag, TagField};
 
 /// `#A`, or a variable.

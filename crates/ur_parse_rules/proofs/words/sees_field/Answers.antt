@@ -2,7 +2,7 @@ use Rattle.ur_grammar.proofs.Tokens.{no_passing}
 use Rattle.ur_lex.specs.declared.token.TokenKind.TheVariants as token
 use Rattle.ur_parse_rules.specs.Words.{is_field}
 use Rattle.ur_parse_rules.proofs.Places.{passing}
-use Rattle.ur_parse_con.proofs.words.sees_field.Goals as goal
+use Rattle.ur_parse_rules.proofs.words.sees_field.Goals as goal
 
 pub returns-then-sees-clause-yes : goal.returns-then-sees-clause-yes
 returns-then-sees-clause-yes c = λ b. passing is_field c.args.tokens.now c.args.at token.Upper _ (c.sees.ensures.yes c.if-sees.true) c.content.ensures _ c.is_field.ensures b
