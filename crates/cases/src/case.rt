@@ -1,0 +1,157 @@
+//! Cases as they are written in a file: docs/CASES.md has their form.
+use crate::subject::Subject;
+use std::alloc::{AllocError, Global};
+
+/// A text, what it is to be read as, and what must come.
+#[derive(Drop)]
+pub struct Case {
+    /// the line at which it begins, from 1
+    pub line: usize,
+    pub subject: Subject,
+    pub text: String,
+    /// the lines of what must come, and nothing before the first of these is read
+    pub wanted: String,
+    /// whether the next line stands directly behind what is there
+    joins: bool,
+}
+
+impl Case {
+    fn new(alloc: Global, line: usize, subject: Subject, text: &str) -> Result<Case, AllocError> {
+        Ok(Case {
+            line,
+            subject,
+            text: String::from_str(alloc, text)?,
+            wanted: String::new(alloc),
+            joins: text.is_empty(),
+        })
+    }
+
+    /// A line more of the text, or more of the last line of what must come.
+    fn go_on(&mut self, more: &str) -> Result<(), AllocError> {
+        if self.wanted.is_empty() {
+            if !self.joins {
+                self.text.push_str("\n")?;
+            }
+            self.text.push_str(more)?;
+        } else {
+            if !self.joins {
+                self.wanted.push_str(" ")?;
+            }
+            self.wanted.push_str(more.trim_start())?;
+        }
+        self.joins = false;
+        Ok(())
+    }
+
+    /// A piece so many times. Nothing is put before it, nor behind it.
+    fn repeat(&mut self, count: u16, piece: &str) -> Result<(), AllocError> {
+        for _ in 0..count {
+            if self.wanted.is_empty() {
+                self.text.push_str(piece)?;
+            } else {
+                self.wanted.push_str(piece)?;
+            }
+        }
+        self.joins = true;
+        Ok(())
+    }
+
+    /// A line of what must come.
+    fn want(&mut self, line: &str) -> Result<(), AllocError> {
+        if !self.wanted.is_empty() {
+            self.wanted.push_str("\n")?;
+        }
+        self.wanted.push_str(line)?;
+        self.joins = false;
+        Ok(())
+    }
+}
+
+/// The cases of a file, and the lines that belong to none.
+#[derive(Drop)]
+pub struct Cases {
+    pub cases: Vec<Case>,
+    pub strays: Vec<usize>,
+    /// whether the next line may belong to the last case
+    is_open: bool,
+}
+
+impl Cases {
+    pub fn read(alloc: Global, file: &str) -> Result<Cases, AllocError> {
+        let mut all = Cases {
+            cases: Vec::new(alloc),
+            strays: Vec::new(alloc),
+            is_open: false,
+        };
+        let mut number = 0usize;
+        for line in file.lines() {
+            number = number.saturating_add(1);
+            if !all.take(alloc, number, line)? {
+                all.strays.push(number)?;
+            }
+        }
+        Ok(all)
+    }
+
+    /// Takes a line, or answers that it belongs to no case.
+    fn take(&mut self, alloc: Global, number: usize, line: &str) -> Result<bool, AllocError> {
+        if line.is_empty() || line.starts_with('#') {
+            return Ok(true);
+        }
+        if line.starts_with(|first: char| first.is_ascii_lowercase()) {
+            return self.begin(alloc, number, line);
+        }
+        if !self.is_open {
+            return Ok(false);
+        }
+        match self.cases.last_mut() {
+            Some(case) => added(case, line),
+            None => Ok(false),
+        }
+    }
+
+    /// Takes the first line of a case.
+    fn begin(&mut self, alloc: Global, number: usize, line: &str) -> Result<bool, AllocError> {
+        let (word, text) = match line.split_once(' ') {
+            Some((word, text)) => (word, text),
+            None => (line, ""),
+        };
+        match Subject::of_word(word) {
+            Some(subject) => {
+                self.cases.push(Case::new(alloc, number, subject, text)?)?;
+                self.is_open = true;
+            }
+            None => self.is_open = false,
+        }
+        Ok(self.is_open)
+    }
+}
+
+/// Adds a line to a case, or answers that it is none of a case.
+fn added(case: &mut Case, line: &str) -> Result<bool, AllocError> {
+    if let Some(more) = line.strip_prefix('|') {
+        case.go_on(more.strip_prefix(' ').unwrap_or(more))?;
+        Ok(true)
+    } else if let Some(repeated) = line.strip_prefix("* ") {
+        repeated_in(case, repeated)
+    } else if line.starts_with('=') || line.starts_with('+') || line.starts_with('!') {
+        case.want(line)?;
+        Ok(true)
+    } else {
+        Ok(false)
+    }
+}
+
+/// Adds a piece as often as a line says.
+fn repeated_in(case: &mut Case, line: &str) -> Result<bool, AllocError> {
+    let Some((count, piece)) = line.split_once(' ') else {
+        return Ok(false);
+    };
+    match count.parse::<u16>() {
+        Ok(count) => {
+            case.repeat(count, piece)?;
+            Ok(true)
+        }
+        Err(_) => Ok(false),
+    }
+}

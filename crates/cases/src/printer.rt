@@ -1,0 +1,76 @@
+//! What trees are put into as text.
+use std::alloc::Global;
+use ur_base::{List, Memory, Text};
+
+/// A text that grows word by word. Where memory is wanting it stays as it is from then on, and `finish` says so.
+#[derive(Drop)]
+pub struct Printer {
+    alloc: Global,
+    out: Text,
+    lacks_memory: bool,
+}
+
+impl Printer {
+    pub fn new(alloc: Global) -> Printer {
+        Printer {
+            alloc,
+            out: List::new(alloc),
+            lacks_memory: false,
+        }
+    }
+
+    /// The text, or want of memory.
+    pub fn finish(self) -> Result<Text, Memory> {
+        let Printer {
+            alloc: _,
+            out,
+            lacks_memory,
+        } = self;
+        if lacks_memory { Err(Memory) } else { Ok(out) }
+    }
+
+    /// Bytes as they are.
+    pub fn put(&mut self, bytes: &[u8]) {
+        if !self.lacks_memory {
+            self.lacks_memory = self.out.extend_from_slice(bytes).is_err();
+        }
+    }
+
+    /// A word, with a blank before it but at the begin and behind an opening bracket.
+    pub fn word(&mut self, bytes: &[u8]) {
+        match self.out.as_slice().last() {
+            None | Some(b'(' | b'[' | b'{') => {}
+            Some(_) => self.put(b" "),
+        }
+        self.put(bytes);
+    }
+
+    /// A number, as a word.
+    pub fn number(&mut self, of: u64) {
+        self.word(b"");
+        self.count(of);
+    }
+
+    /// A number as it is.
+    pub fn count(&mut self, of: u64) {
+        match format!(in self.alloc; "{of}") {
+            Ok(digits) => self.put(digits.as_bytes()),
+            Err(_) => self.lacks_memory = true,
+        }
+    }
+
+    /// A text in quotes, with the escapes of the language.
+    pub fn quoted(&mut self, of: &[u8]) {
+        self.word(b"\"");
+        for byte in of {
+            match byte {
+                b'"' => self.put(b"\\\""),
+                b'\\' => self.put(b"\\\\"),
+                b'\n' => self.put(b"\\n"),
+                b'\t' => self.put(b"\\t"),
+                other => self.put(&[*other]),
+            }
+        }
+        self.put(b"\"");
+    }
+}
