@@ -1,5 +1,9 @@
 pub mod Atoms
 mod Dropping
+mod Filling
 mod Keys
+pub mod Linking
 pub mod Listing
 mod Walking
+pub mod Stored
+pub mod Hooking

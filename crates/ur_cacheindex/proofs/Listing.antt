@@ -1,26 +1,24 @@
--- What a change of one list does, and which lists a node is on.
-use Rattle.std.proofs.Common.{◌≡◌, ◌≢◌, ℕ, ◌+◌, ◌≤◌, Bool, true, false, ◌&&◌, ◌||◌, cond, nat_lt, List, [], length, Option, Some, None, IsSome, refl, sym, ap, subst, ◌∙◌, inl, inr, arith}
+-- Which lists a node is on, and what is kept of their heads.
+use Rattle.std.proofs.Common.{◌≡◌, ◌≢◌, ℕ, ◌+◌, Bool, true, false, ◌&&◌, ◌||◌, cond, nat_lt, [], length, Option, Some, None, IsSome, refl, sym, ap, subst, ◌∙◌, inl, inr, arith}
 use Rattle.std.proofs.lemmas.Bool.{cases_eq}
+use Rattle.std.proofs.lemmas.List.{nil_from_length}
 use Rattle.std.specs.declared.cmp.Ordering.{Ordering}
 use Rattle.std.specs.declared.cmp.Ordering.TheVariants as ordering
-use Rattle.std.specs.Ordering.{nat_cmp, is_eq, eq_by_cmp, ordering_then}
-use Rattle.std.specs.Cmp.{nat_cmp_total}
-use Rattle.std.specs.List.Sorted.{IsStrictlySortedBy}
-use Rattle.std.specs.BTreeMap.{BTreeMap, get, Updates, WritesThrough}
-use Rattle.std.proofs.lemmas.List.{nil_from_length}
-use Rattle.std.specs.BTreeSet.{BTreeSet}
+use Rattle.std.specs.Ordering.{nat_cmp, is_eq, ordering_then}
+use Rattle.std.specs.BTreeMap.{get, Updates, WritesThrough}
 use Rattle.std.specs.Map.{lookup}
-use Rattle.std.specs.FinMap.{get as node_at, insert, remove, get-insert, get-remove, get-empty, empty}
-use Rattle.ur_counted.proofs.Laws.{tied, apart, same_items}
+use Rattle.ur_chains.specs.Chains.{same_number}
+use Rattle.ur_chains.proofs.Chains.{number_self, number_apart, number_is}
+pub use Rattle.ur_chains.proofs.Chains.{true_false}
+pub use Rattle.ur_cacheindex.proofs.Stored.{inserted_removed}
 use Rattle.ur_values.specs.declared.atom.Atom.{Atom}
 use Rattle.ur_values.specs.AtomLaws.{atom_cmp}
 use Rattle.ur_values.specs.contracts.atom.AtomOrd.TheImpl.Laws as laws
 use Rattle.ur_values.proofs.Equal.{atom_decides}
 use Rattle.ur_cacheindex.specs.declared.node.Node.{Node}
-use Rattle.ur_cacheindex.specs.declared.lists.Lists.{Lists}
-use Rattle.ur_cacheindex.specs.Nodes.{Nodes}
-use Rattle.ur_cacheindex.specs.Calls.{passes}
-use Rattle.ur_cacheindex.specs.Lists.{place_cmp, same_number, same_atom, same_place, lists_number, Atoms, numbers_in, numbers_among, numbers_at, Becomes, Stays, ChangesAmong, StaysAmong, Changes, SameLists, every, atom_at, is_on_below, slots_of, is_on, AreListed, ChangesBelow, ChangesAll, KeepsOthers}
+use Rattle.ur_cacheindex.specs.declared.heads.Head.{Head}
+use Rattle.ur_cacheindex.specs.declared.heads.Heads.{Heads}
+use Rattle.ur_cacheindex.specs.Lists.{place_cmp, same_atom, same_place, Atoms, empty_head, head_among, kept_at, head_of, head_at, KeepsHead, KeepsAmong, StaysAmong, SetsHead, SameKept, SameHeads, SameAmong, atom_at, is_on_below, KeptBelow}
 
 -- ---- what ties
 
@@ -30,17 +28,8 @@ atom_is a b e = (atom_decides a b).0 (laws.matches_eq-law a b ∙ e)
 pub atom_self : (a : Atom) → same_atom a a ≡ true
 atom_self a = sym (laws.matches_eq-law a a) ∙ (atom_decides a a).1 refl
 
-pub number_self : (n : ℕ) → same_number n n ≡ true
-number_self n = tied n n refl
-
-pub number_apart : (n m : ℕ) → n ≢ m → same_number n m ≡ false
-number_apart = apart
-
-pub true_false : true ≡ false → ⊥
-true_false e = absurd (cc)
-
-pub number_is : (n m : ℕ) → same_number n m ≡ true → n ≡ m
-number_is n m e = elim (cases_eq n m) [ inl same ↦ same | inr differs ↦ absurd (true_false (sym e ∙ apart n m differs)) ]
+pub some_same : {X : Type 0} (a b : X) → Some a ≡ Some b → a ≡ b
+some_same a b e = cc
 
 both_equal : (r q : Ordering) → is_eq (ordering_then r q) ≡ (is_eq r && is_eq q)
 both_equal ordering.Less q = refl
@@ -61,135 +50,138 @@ and_right false b e = absurd (true_false (sym e))
 pub both_true : (a b : Bool) → (a && b) ≡ true → (a ≡ true) × (b ≡ true)
 both_true a b e = (and_left a b e, and_right a b e)
 
-place_is : (p q : ℕ × ℕ) → same_place p q ≡ true → p ≡ q
+pub place_is : (p q : ℕ × ℕ) → same_place p q ≡ true → p ≡ q
 place_is p q e =
     let b = both_true (same_number p.0 q.0) (same_number p.1 q.1) (sym (place_both p q) ∙ e) in
     let x = number_is p.0 q.0 b.0 in
     let y = number_is p.1 q.1 b.1 in
     λ i. (x i, y i)
 
-pub sorted_none : IsStrictlySortedBy nat_cmp []
-unfolding IsStrictlySortedBy
-sorted_none = tt
+-- ---- heads
 
--- ---- a change of one list
-
-pub change_among : (old new : Atoms) (at : Atom) (n : ℕ) (b : Bool) (slot : Option (BTreeSet ℕ))
-    → ((q : Atom) → get atom_cmp new q ≡ cond (same_atom at q) slot (get atom_cmp old q))
-    → Becomes n b (numbers_in (get atom_cmp old at)) (numbers_in slot) → ChangesAmong at n b old new
-change_among old new at n b slot turns becomes a m = ap (λ o. lists_number (numbers_in o) m) (turns a) ∙ by (same_atom at a) refl
+pub kept_among : (atoms : Atoms) (at : Atom) (head : Head) → Some head ≡ get atom_cmp atoms at → KeepsAmong at (head_of (get atom_cmp atoms at)) atoms atoms
+kept_among atoms at head found a = by (same_atom at a) refl
   where
-    by : (t : Bool) → same_atom at a ≡ t
-        → lists_number (numbers_in (cond t slot (get atom_cmp old a))) m ≡ cond (t && same_number n m) b (lists_number (numbers_in (get atom_cmp old a)) m)
-    by true e = becomes m ∙ ap (λ x. cond (same_number n m) b (lists_number (numbers_in (get atom_cmp old x)) m)) (atom_is at a e)
+    by : (t : Bool) → same_atom at a ≡ t → get atom_cmp atoms a ≡ cond t (Some (head_of (get atom_cmp atoms at))) (get atom_cmp atoms a)
+    by true e = ap (get atom_cmp atoms) (sym (atom_is at a e)) ∙ sym found ∙ ap (λ o. Some (head_of o)) found
     by false e = refl
 
-pub change_lists : (old new : Lists) (site slot : ℕ) (at : Atom) (n : ℕ) (b : Bool) (atoms : Option Atoms)
-    → ((q : ℕ × ℕ) → get place_cmp new.places q ≡ cond (same_place (site, slot) q) atoms (get place_cmp old.places q))
-    → ((a : Atom) (m : ℕ) → lists_number (numbers_among atoms a) m ≡ cond (same_atom at a && same_number n m) b (lists_number (numbers_among (get place_cmp old.places (site, slot)) a) m))
-    → Changes site slot at n b old new
-change_lists old new site slot at n b atoms turns changes s k a m = ap (λ o. lists_number (numbers_among o a) m) (turns (s, k)) ∙ by (same_place (site, slot) (s, k)) refl
+gone_head : (t : Bool) (o p : Option Head) → (t ≡ true → head_of o ≡ head_of None) → head_of (cond t None o) ≡ head_of o
+gone_head true o p f = sym (f refl)
+gone_head false o p f = refl
+
+pub tidied_among : (old new : Atoms) (at : Atom) → Updates atom_cmp old new at None → head_of (get atom_cmp old at) ≡ head_of None → SameAmong old new
+tidied_among old new at updates empty a =
+    ap head_of (updates.0 a) ∙ gone_head (same_atom at a) (get atom_cmp old a) None (λ e. ap (λ b. head_of (get atom_cmp old b)) (sym (atom_is at a e)) ∙ empty)
+
+module _ (old : Heads) (site slot : ℕ) where
+  -- what a change at one place does
+  turned : {X : Type 0} (read : Option Atoms → Atom → X) (new : Heads) (atoms : Option Atoms) (want : Atom → X → X) (s k : ℕ) (a : Atom)
+      → ((q : ℕ × ℕ) → get place_cmp new.places q ≡ cond (same_place (site, slot) q) atoms (get place_cmp old.places q))
+      → (read atoms a ≡ want a (read (get place_cmp old.places (site, slot)) a))
+      → (t : Bool) → same_place (site, slot) (s, k) ≡ t → read (get place_cmp new.places (s, k)) a ≡ cond t (want a (read (get place_cmp old.places (s, k)) a)) (read (get place_cmp old.places (s, k)) a)
+  turned read new atoms want s k a turns changes true e =
+      ap (λ o. read o a) (turns (s, k)) ∙ ap (λ t. read (cond t atoms (get place_cmp old.places (s, k))) a) e
+      ∙ changes ∙ ap (λ p. want a (read (get place_cmp old.places p) a)) (place_is (site, slot) (s, k) e)
+  turned read new atoms want s k a turns changes false e = ap (λ o. read o a) (turns (s, k)) ∙ ap (λ t. read (cond t atoms (get place_cmp old.places (s, k))) a) e
+
+  both_of : {X : Type 0} (t r : Bool) (x y : X) → cond t (cond r x y) y ≡ cond (t && r) x y
+  both_of true r x y = refl
+  both_of false r x y = refl
+
+  pub kept_turned : (at : Atom) (head : Head) (new : Heads) (atoms : Option Atoms)
+      → ((q : ℕ × ℕ) → get place_cmp new.places q ≡ cond (same_place (site, slot) q) atoms (get place_cmp old.places q))
+      → ((a : Atom) → head_among atoms a ≡ cond (same_atom at a) (Some head) (head_among (get place_cmp old.places (site, slot)) a)) → KeepsHead site slot at head old new
+  kept_turned at head new atoms turns changes s k a =
+      turned head_among new atoms (λ b x. cond (same_atom at b) (Some head) x) s k a turns (changes a) (same_place (site, slot) (s, k)) refl
+      ∙ both_of (same_place (site, slot) (s, k)) (same_atom at a) (Some head) (kept_at old s k a)
+
+  stays_of : {X : Type 0} (t : Bool) (x : X) → cond t x x ≡ x
+  stays_of true x = refl
+  stays_of false x = refl
+
+  same_turned : (new : Heads) (atoms : Option Atoms)
+      → ((q : ℕ × ℕ) → get place_cmp new.places q ≡ cond (same_place (site, slot) q) atoms (get place_cmp old.places q))
+      → ((a : Atom) → head_of (head_among atoms a) ≡ head_of (head_among (get place_cmp old.places (site, slot)) a)) → SameHeads old new
+  same_turned new atoms turns changes s k a =
+      turned (λ o b. head_of (head_among o b)) new atoms (λ b x. x) s k a turns (changes a) (same_place (site, slot) (s, k)) refl
+      ∙ stays_of (same_place (site, slot) (s, k)) (head_at old s k a)
+
+  pub kept_stays : (new : Heads) (was is : Atoms) → Some was ≡ get place_cmp old.places (site, slot) → WritesThrough place_cmp (place_cmp (site, slot)) old.places is new.places → StaysAmong was is → SameKept old new
+  kept_stays new was is found wrote stays s k a =
+      turned head_among new (Some is) (λ b x. x) s k a (wrote.3 (subst IsSome found refl)).0 (stays a ∙ ap (λ o. head_among o a) found) (same_place (site, slot) (s, k)) refl
+      ∙ stays_of (same_place (site, slot) (s, k)) (kept_at old s k a)
+
+  pub kept_written : (at : Atom) (head : Head) (new : Heads) (was is : Atoms) → Some was ≡ get place_cmp old.places (site, slot)
+      → WritesThrough place_cmp (place_cmp (site, slot)) old.places is new.places → KeepsAmong at head was is → KeepsHead site slot at head old new
+  kept_written at head new was is found wrote changes =
+      kept_turned at head new (Some is) (wrote.3 (subst IsSome found refl)).0 (λ a. changes a ∙ ap (λ o. cond (same_atom at a) (Some head) (head_among o a)) found)
+
+  pub kept_inserted : (at : Atom) (head : Head) (new : Heads) (none is : Atoms) → None ≡ get place_cmp old.places (site, slot)
+      → Updates place_cmp old.places new.places (site, slot) (Some is) → none.entries ≡ [] → KeepsAmong at head none is → KeepsHead site slot at head old new
+  kept_inserted at head new none is absent updates empty changes =
+      kept_turned at head new (Some is) updates.0
+      (λ a. changes a ∙ ap (λ es. cond (same_atom at a) (Some head) (lookup (same_atom a) es)) empty ∙ ap (λ o. cond (same_atom at a) (Some head) (head_among o a)) absent)
+
+  pub tidied_written : (new : Heads) (was is : Atoms) → Some was ≡ get place_cmp old.places (site, slot) → WritesThrough place_cmp (place_cmp (site, slot)) old.places is new.places → SameAmong was is
+      → SameHeads old new
+  tidied_written new was is found wrote same = same_turned new (Some is) (wrote.3 (subst IsSome found refl)).0 (λ a. same a ∙ ap (λ o. head_of (head_among o a)) found)
+
+  twice : {X : Type 0} (t : Bool) (last there was : Option X) → cond t last (cond t there was) ≡ cond t last was
+  twice true last there was = refl
+  twice false last there was = refl
+
+  pub tidied_removed : (mid new : Heads) (was is : Atoms) → Some was ≡ get place_cmp old.places (site, slot) → WritesThrough place_cmp (place_cmp (site, slot)) old.places is mid.places
+      → SameAmong was is → length is.entries ≡ 0 → Updates place_cmp mid.places new.places (site, slot) None → SameHeads old new
+  tidied_removed mid new was is found wrote same empty updates =
+      same_turned new None
+      (λ q. updates.0 q ∙ ap (cond (same_place (site, slot) q) None) ((wrote.3 (subst IsSome found refl)).0 q) ∙ twice (same_place (site, slot) q) None (Some is) (get place_cmp old.places q))
+      (λ a. ap (λ es. head_of (lookup (same_atom a) es)) (sym (nil_from_length is.entries empty)) ∙ same a ∙ ap (λ o. head_of (head_among o a)) found)
+
+head_cond : (t : Bool) (head : Head) (o : Option Head) → head_of (cond t (Some head) o) ≡ cond t head (head_of o)
+head_cond true head o = refl
+head_cond false head o = refl
+
+pub sets_of_keeps : (site slot : ℕ) (at : Atom) (head : Head) (old new : Heads) → KeepsHead site slot at head old new → SetsHead site slot at head old new
+sets_of_keeps site slot at head old new keeps s k a = ap head_of (keeps s k a) ∙ head_cond (same_place (site, slot) (s, k) && same_atom at a) head (kept_at old s k a)
+
+pub is_itself : (site slot : ℕ) (at : Atom) → (same_place (site, slot) (site, slot) && same_atom at at) ≡ true
+is_itself site slot at = ap (λ t. t && same_atom at at) (place_both (site, slot) (site, slot) ∙ ap (λ t. t && same_number slot slot) (number_self site) ∙ number_self slot) ∙ atom_self at
+
+pub place_of : (site slot s k : ℕ) (at a : Atom) → (same_place (site, slot) (s, k) && same_atom at a) ≡ true → (site ≡ s) × (slot ≡ k) × (at ≡ a)
+place_of site slot s k at a e =
+    let b = both_true (same_place (site, slot) (s, k)) (same_atom at a) e in
+    let p = both_true (same_number site s) (same_number slot k) (sym (place_both (site, slot) (s, k)) ∙ b.0) in
+    (number_is site s p.0, number_is slot k p.1, atom_is at a b.1)
+
+-- to keep the head that a list has changes no list
+pub keeps_same : (site slot : ℕ) (at : Atom) (old new : Heads) → KeepsHead site slot at (head_at old site slot at) old new → SameHeads old new
+keeps_same site slot at old new keeps s k a = sets_of_keeps site slot at (head_at old site slot at) old new keeps s k a ∙ by (same_place (site, slot) (s, k) && same_atom at a) refl
   where
-    by : (t : Bool) → same_place (site, slot) (s, k) ≡ t
-        → lists_number (numbers_among (cond t atoms (get place_cmp old.places (s, k))) a) m
-        ≡ cond (t && (same_atom at a && same_number n m)) b (lists_number (numbers_among (get place_cmp old.places (s, k)) a) m)
-    by true e = changes a m ∙ ap (λ p. cond (same_atom at a && same_number n m) b (lists_number (numbers_among (get place_cmp old.places p) a) m)) (place_is (site, slot) (s, k) e)
+    by : (t : Bool) → (same_place (site, slot) (s, k) && same_atom at a) ≡ t → cond t (head_at old site slot at) (head_at old s k a) ≡ head_at old s k a
+    by true e = let p = place_of site slot s k at a e in ap (λ n. head_at old n slot at) p.0 ∙ ap (λ n. head_at old s n at) p.1 ∙ ap (head_at old s k) p.2
     by false e = refl
 
--- an entry that is written and then taken away is taken away
-pub taken_away : {X : Type 0} (t : Bool) (last there was : Option X) → cond t last (cond t there was) ≡ cond t last was
-taken_away true last there was = refl
-taken_away false last there was = refl
+some_cond : (t : Bool) (head : Head) (o : Option Head) → IsSome o → IsSome (cond t (Some head) o)
+some_cond true head o h = refl
+some_cond false head o h = h
 
--- a list of which nothing is left has no number
-pub none_left : (n : ℕ) (b : Bool) (old new : List ℕ) → new ≡ [] → Becomes n b old new → Becomes n b old []
-none_left n b old new none becomes = subst (λ ns. Becomes n b old ns) none becomes
+pub keeps_kept : (site slot : ℕ) (at : Atom) (head : Head) (old new : Heads) → KeepsHead site slot at head old new → (s k : ℕ) (a : Atom) → IsSome (kept_at old s k a) → IsSome (kept_at new s k a)
+keeps_kept site slot at head old new keeps s k a there = subst IsSome (sym (keeps s k a)) (some_cond (same_place (site, slot) (s, k) && same_atom at a) head (kept_at old s k a) there)
 
-both_off : (t r : Bool) (x : Bool) → (t ≡ true → x ≡ false) → x ≡ cond (t && r) false x
-both_off true true x off = off refl
-both_off true false x off = refl
-both_off false r x off = refl
+pub keeps_there : (site slot : ℕ) (at : Atom) (head : Head) (old new : Heads) → KeepsHead site slot at head old new → IsSome (kept_at new site slot at)
+keeps_there site slot at head old new keeps = subst IsSome (sym (keeps site slot at ∙ ap (λ t. cond t (Some head) (kept_at old site slot at)) (is_itself site slot at))) refl
 
-module _ (old : Atoms) (at : Atom) (n : ℕ) where
-  pub among_written : (b : Bool) (new : Atoms) (was is : BTreeSet ℕ) → Some was ≡ get atom_cmp old at → WritesThrough atom_cmp (atom_cmp at) old is new → Becomes n b was.keys is.keys → ChangesAmong at n b old new
-  among_written b new was is found wrote becomes =
-      change_among old new at n b (Some is) (wrote.3 (subst IsSome found refl)).0 (subst (λ o. Becomes n b (numbers_in o) is.keys) found becomes)
+none_kept : (o : Option Head) → (IsSome o → ⊥) → o ≡ None
+none_kept None f = refl
+none_kept (Some head) f = absurd (f refl)
 
-  pub stays_written : (new : Atoms) (was is : BTreeSet ℕ) → Some was ≡ get atom_cmp old at → WritesThrough atom_cmp (atom_cmp at) old is new → Stays was.keys is.keys → StaysAmong old new
-  stays_written new was is found wrote stays a m = ap (λ o. lists_number (numbers_in o) m) ((wrote.3 (subst IsSome found refl)).0 a) ∙ by (same_atom at a) refl
-    where
-      by : (t : Bool) → same_atom at a ≡ t → lists_number (numbers_in (cond t (Some is) (get atom_cmp old a))) m ≡ lists_number (numbers_in (get atom_cmp old a)) m
-      by true e = stays m ∙ ap (λ o. lists_number (numbers_in o) m) (found ∙ ap (get atom_cmp old) (atom_is at a e))
-      by false e = refl
-
-  pub among_inserted : (new : Atoms) (none is : BTreeSet ℕ) → None ≡ get atom_cmp old at → Updates atom_cmp old new at (Some is) → none.keys ≡ [] → Becomes n true none.keys is.keys → ChangesAmong at n true old new
-  among_inserted new none is absent updates empty becomes =
-      change_among old new at n true (Some is) updates.0 (subst (λ o. Becomes n true (numbers_in o) is.keys) absent (subst (λ ns. Becomes n true ns is.keys) empty becomes))
-
-  pub among_removed : (mid new : Atoms) (was is : BTreeSet ℕ) → Some was ≡ get atom_cmp old at → WritesThrough atom_cmp (atom_cmp at) old is mid → Becomes n false was.keys is.keys
-      → length is.keys ≡ 0 → Updates atom_cmp mid new at None → ChangesAmong at n false old new
-  among_removed mid new was is found wrote becomes empty updates =
-      change_among old new at n false None
-      (λ q. updates.0 q ∙ ap (cond (same_atom at q) None) ((wrote.3 (subst IsSome found refl)).0 q) ∙ taken_away (same_atom at q) None (Some is) (get atom_cmp old q))
-      (subst (λ o. Becomes n false (numbers_in o) []) found (none_left n false was.keys is.keys (nil_from_length is.keys empty) becomes))
-
-  -- nothing goes from a list that is not there
-  pub among_absent : (new : Atoms) → new ≡ old → None ≡ get atom_cmp old at → ChangesAmong at n false old new
-  among_absent new same absent a m =
-      ap (λ o. lists_number (numbers_in (get atom_cmp o a)) m) same
-      ∙ both_off (same_atom at a) (same_number n m) (lists_number (numbers_in (get atom_cmp old a)) m)
-      (λ e. ap (λ o. lists_number (numbers_in o) m) (ap (get atom_cmp old) (sym (atom_is at a e)) ∙ sym absent))
-
-nothing_among : (atoms : Atoms) (a : Atom) (m : ℕ) → atoms.entries ≡ [] → lists_number (numbers_in (get atom_cmp atoms a)) m ≡ false
-nothing_among atoms a m none = ap (λ es. lists_number (numbers_in (lookup (same_atom a) es)) m) none
-
-module _ (old : Lists) (site slot : ℕ) (at : Atom) (n : ℕ) where
-  pub lists_written : (b : Bool) (new : Lists) (was is : Atoms) → Some was ≡ get place_cmp old.places (site, slot) → WritesThrough place_cmp (place_cmp (site, slot)) old.places is new.places
-      → ChangesAmong at n b was is → Changes site slot at n b old new
-  lists_written b new was is found wrote changes =
-      change_lists old new site slot at n b (Some is) (wrote.3 (subst IsSome found refl)).0
-      (λ a m. subst (λ o. lists_number (numbers_among (Some is) a) m ≡ cond (same_atom at a && same_number n m) b (lists_number (numbers_among o a) m)) found (changes a m))
-
-  pub same_written : (new : Lists) (was is : Atoms) → Some was ≡ get place_cmp old.places (site, slot) → WritesThrough place_cmp (place_cmp (site, slot)) old.places is new.places → StaysAmong was is → SameLists old new
-  same_written new was is found wrote stays s k a m = ap (λ o. lists_number (numbers_among o a) m) ((wrote.3 (subst IsSome found refl)).0 (s, k)) ∙ by (same_place (site, slot) (s, k)) refl
-    where
-      by : (t : Bool) → same_place (site, slot) (s, k) ≡ t → lists_number (numbers_among (cond t (Some is) (get place_cmp old.places (s, k))) a) m ≡ lists_number (numbers_among (get place_cmp old.places (s, k)) a) m
-      by true e = stays a m ∙ ap (λ o. lists_number (numbers_among o a) m) (found ∙ ap (get place_cmp old.places) (place_is (site, slot) (s, k) e))
-      by false e = refl
-
-  pub lists_inserted : (new : Lists) (none is : Atoms) → None ≡ get place_cmp old.places (site, slot) → Updates place_cmp old.places new.places (site, slot) (Some is) → none.entries ≡ []
-      → ChangesAmong at n true none is → Changes site slot at n true old new
-  lists_inserted new none is absent updates empty changes =
-      change_lists old new site slot at n true (Some is) updates.0
-      (λ a m. subst (λ o. lists_number (numbers_among (Some is) a) m ≡ cond (same_atom at a && same_number n m) true (lists_number (numbers_among o a) m)) absent
-      (changes a m ∙ ap (cond (same_atom at a && same_number n m) true) (nothing_among none a m empty)))
-
-  pub lists_removed : (mid new : Lists) (was is : Atoms) → Some was ≡ get place_cmp old.places (site, slot) → WritesThrough place_cmp (place_cmp (site, slot)) old.places is mid.places
-      → ChangesAmong at n false was is → length is.entries ≡ 0 → Updates place_cmp mid.places new.places (site, slot) None → Changes site slot at n false old new
-  lists_removed mid new was is found wrote changes empty updates =
-      change_lists old new site slot at n false None
-      (λ q. updates.0 q ∙ ap (cond (same_place (site, slot) q) None) ((wrote.3 (subst IsSome found refl)).0 q) ∙ taken_away (same_place (site, slot) q) None (Some is) (get place_cmp old.places q))
-      (λ a m. subst (λ o. false ≡ cond (same_atom at a && same_number n m) false (lists_number (numbers_among o a) m)) found
-      (sym (nothing_among is a m (nil_from_length is.entries empty)) ∙ changes a m))
-
-  pub lists_absent : (new : Lists) → new.places ≡ old.places → None ≡ get place_cmp old.places (site, slot) → Changes site slot at n false old new
-  lists_absent new same absent s k a m =
-      ap (λ o. lists_number (numbers_among (get place_cmp o (s, k)) a) m) same
-      ∙ both_off (same_place (site, slot) (s, k)) (same_atom at a && same_number n m) (lists_number (numbers_at old s k a) m)
-      (λ e. ap (λ o. lists_number (numbers_among o a) m) (ap (get place_cmp old.places) (sym (place_is (site, slot) (s, k) e)) ∙ sym absent))
+-- a list that is not empty has its head kept
+pub kept_from_len : (o : Option Head) (n : ℕ) → (head_of o).len ≡ n + 1 → IsSome o
+kept_from_len None n e = absurd (omega (arith, e))
+kept_from_len (Some head) n e = refl
 
 -- ---- which lists a node is on
-
-joined : (r p q o b x : Bool) → cond (p && (q && r)) b (cond (o && r) b x) ≡ cond (((p && q) || o) && r) b x
-joined true true true o b x = refl
-joined true true false o b x = refl
-joined true false q o b x = refl
-joined false true true true b x = refl
-joined false true true false b x = refl
-joined false true false true b x = refl
-joined false true false false b x = refl
-joined false false q true b x = refl
-joined false false q false b x = refl
 
 at_last : (s a : Bool) → (s && (true && a)) ≡ (((s && true) && a) || (s && (false && a)))
 at_last true true = refl
@@ -209,7 +201,7 @@ not_below_same i = grind arith
 below_other : (i k : ℕ) → i ≢ k → nat_lt k (i + 1) ≡ nat_lt k i
 below_other i k differs = grind arith
 
-more_on : (i s k : ℕ) (a : Atom) (node : Node)
+pub more_on : (i s k : ℕ) (a : Atom) (node : Node)
     → is_on_below (i + 1) s k a node ≡ ((same_place (node.site, i) (s, k) && same_atom (atom_at node i) a) || is_on_below i s k a node)
 more_on i s k a node =
     elim (cases_eq i k) [
@@ -230,150 +222,25 @@ more_on i s k a node =
         ∙ at_other (same_number node.site s) (same_atom (atom_at node i) a) (nat_lt k i && same_atom (atom_at node k) a)
         ∙ sym (ap (λ p. (p && same_atom (atom_at node i) a) || is_on_below i s k a node) (place_both (node.site, i) (s, k) ∙ ap (λ t. same_number node.site s && t) (number_apart i k differs)))
 
-no_slots : (site : Bool) (a r : Bool) → ((site && (false && a)) && r) ≡ false
-no_slots true a r = refl
-no_slots false a r = refl
-
-below_none : (k : ℕ) → nat_lt k 0 ≡ false
+pub below_none : (k : ℕ) → nat_lt k 0 ≡ false
 below_none k = grind arith
 
-pub ChangesBelow-start : (node : Node) (n : ℕ) (b : Bool) (lists : Lists) → ChangesBelow 0 node n b lists lists
-ChangesBelow-start node n b lists s k a m =
-    sym (ap (λ l. cond ((same_number node.site s && (l && same_atom (atom_at node k) a)) && same_number n m) b (lists_number (numbers_at lists s k a) m)) (below_none k)
-    ∙ ap (λ t. cond t b (lists_number (numbers_at lists s k a) m)) (no_slots (same_number node.site s) (same_atom (atom_at node k) a) (same_number n m)))
+pub head_new : (old : Heads) (site slot : ℕ) (at : Atom) (none : Atoms) → None ≡ get place_cmp old.places (site, slot) → none.entries ≡ [] → head_of (get atom_cmp none at) ≡ head_at old site slot at
+head_new old site slot at none absent empty = ap (λ es. head_of (lookup (same_atom at) es)) empty ∙ ap (λ o. head_of (head_among o at)) absent
 
-pub ChangesBelow-more : (i : ℕ) (node : Node) (n : ℕ) (b : Bool) (start now new : Lists) → ChangesBelow i node n b start now
-    → Changes node.site i (atom_at node i) n b now new → ChangesBelow (i + 1) node n b start new
-ChangesBelow-more i node n b start now new before change s k a m =
-    change s k a m
-    ∙ ap (λ x. cond (same_place (node.site, i) (s, k) && (same_atom (atom_at node i) a && same_number n m)) b x) (before s k a m)
-    ∙ joined (same_number n m) (same_place (node.site, i) (s, k)) (same_atom (atom_at node i) a) (is_on_below i s k a node) b (lists_number (numbers_at start s k a) m)
-    ∙ sym (ap (λ t. cond (t && same_number n m) b (lists_number (numbers_at start s k a) m)) (more_on i s k a node))
+pub empty_is : (head : Head) → head.len ≡ 0 → head.first ≡ None → head ≡ empty_head
+empty_is head len first = λ i. record { first = first i; len = len i }
 
--- the first slot alone
-pub ChangesBelow-first : (node : Node) (n : ℕ) (b : Bool) (start new : Lists) → Changes node.site 0 every n b start new → ChangesBelow 1 node n b start new
-ChangesBelow-first node n b start new change = ChangesBelow-more 0 node n b start start new (ChangesBelow-start node n b start) change
+below_last : (k i : ℕ) → nat_lt k (i + 1) ≡ true → k ≢ i → nat_lt k i ≡ true
+below_last k i e differs = grind (arith, e, differs)
 
-fewer : (i slots k : ℕ) → i ≤ slots → nat_lt k slots ≡ false → nat_lt k i ≡ false
-fewer i slots k less none = grind arith
-
-fewer_on : (s l l' a r : Bool) → (l' ≡ false → l ≡ false) → ((s && (l' && a)) && r) ≡ false → ((s && (l && a)) && r) ≡ false
-fewer_on false l l' a r less none = refl
-fewer_on true true true a r less none = none
-fewer_on true true false a r less none = absurd (true_false (less refl))
-fewer_on true false l' a r less none = refl
-
--- where some slots were filled and the next was not
-pub KeepsOthers-below : (i : ℕ) (node : Node) (n : ℕ) (start now new : Lists) → i ≤ slots_of node → ChangesBelow i node n true start now → SameLists now new → KeepsOthers node n start new
-KeepsOthers-below i node n start now new less before same s k a m none =
-    same s k a m ∙ before s k a m
-    ∙ ap (λ t. cond t true (lists_number (numbers_at start s k a) m))
-    (fewer_on (same_number node.site s) (nat_lt k i) (nat_lt k (slots_of node)) (same_atom (atom_at node k) a) (same_number n m) (fewer i (slots_of node) k less) none)
-
-pub KeepsOthers-same : (node : Node) (n : ℕ) (start new : Lists) → SameLists start new → KeepsOthers node n start new
-KeepsOthers-same node n start new same s k a m none = same s k a m
-
-pub undone : (node : Node) (n : ℕ) (start now new : Lists) → KeepsOthers node n start now → ChangesAll node n false now new → ChangesAll node n false start new
-undone node n start now new keeps goes s k a m = goes s k a m ∙ by (is_on s k a node && same_number n m) refl
-  where
-    by : (t : Bool) → (is_on s k a node && same_number n m) ≡ t → cond t false (lists_number (numbers_at now s k a) m) ≡ cond t false (lists_number (numbers_at start s k a) m)
-    by true e = refl
-    by false e = keeps s k a m e
-
--- ---- the lists of an index
-
-none_at : (places : BTreeMap (ℕ × ℕ) Atoms) (s k : ℕ) (a : Atom) (m : ℕ) → places.entries ≡ [] → lists_number (numbers_among (get place_cmp places (s, k)) a) m ≡ false
-none_at places s k a m none = ap (λ es. lists_number (numbers_among (lookup (same_place (s, k)) es) a) m) none
-
-pub AreListed-empty : (lists : Lists) → lists.places.entries ≡ [] → AreListed lists empty
-AreListed-empty lists none s k a m = none_at lists.places s k a m none ∙ sym (ap (passes (is_on s k a)) (get-empty nat_cmp m))
-
-same_turned : (n m : ℕ) → n ≢ m → m ≢ n
-same_turned n m differs e = differs (sym e)
-
-all_on : (o : Bool) → cond (o && true) true false ≡ o
-all_on true = refl
-all_on false = refl
-
-none_on : (o : Bool) → cond (o && true) false o ≡ false
-none_on true = refl
-none_on false = refl
-
-never : (o b x : Bool) → cond (o && false) b x ≡ x
-never true b x = refl
-never false b x = refl
-
-pub AreListed-insert : (old new : Lists) (nodes : Nodes) (n : ℕ) (node : Node) → AreListed old nodes → node_at nodes n ≡ None → ChangesAll node n true old new
-    → AreListed new (insert nodes n node)
-AreListed-insert old new nodes n node listed absent comes s k a m =
-    comes s k a m ∙ ap (λ x. cond (is_on s k a node && same_number n m) true x) (listed s k a m)
-    ∙ elim (cases_eq n m) [
-      | inl same ↦ subst (λ j. cond (is_on s k a node && same_number n j) true (passes (is_on s k a) (node_at nodes j)) ≡ passes (is_on s k a) (node_at (insert nodes n node) j)) same here
-      | inr differs ↦ other differs
-    ]
-  where
-    here : cond (is_on s k a node && same_number n n) true (passes (is_on s k a) (node_at nodes n)) ≡ passes (is_on s k a) (node_at (insert nodes n node) n)
-    here =
-        ap (λ t. cond (is_on s k a node && t) true (passes (is_on s k a) (node_at nodes n))) (number_self n)
-        ∙ ap (λ o. cond (is_on s k a node && true) true (passes (is_on s k a) o)) absent ∙ all_on (is_on s k a node)
-        ∙ sym (ap (passes (is_on s k a)) (get-insert nat_cmp_total nodes n node n ∙ ap (λ t. cond t (Some node) (node_at nodes n)) (tied n n refl)))
-
-    other : n ≢ m → cond (is_on s k a node && same_number n m) true (passes (is_on s k a) (node_at nodes m)) ≡ passes (is_on s k a) (node_at (insert nodes n node) m)
-    other differs =
-        ap (λ t. cond (is_on s k a node && t) true (passes (is_on s k a) (node_at nodes m))) (number_apart n m differs)
-        ∙ never (is_on s k a node) true (passes (is_on s k a) (node_at nodes m))
-        ∙ sym (ap (passes (is_on s k a)) (get-insert nat_cmp_total nodes n node m ∙ ap (λ t. cond t (Some node) (node_at nodes m)) (apart m n (same_turned n m differs))))
-
-pub AreListed-remove : (old new : Lists) (nodes : Nodes) (n : ℕ) (node : Node) → AreListed old nodes → node_at nodes n ≡ Some node → ChangesAll node n false old new
-    → AreListed new (remove nodes n)
-AreListed-remove old new nodes n node listed there goes s k a m =
-    goes s k a m ∙ ap (λ x. cond (is_on s k a node && same_number n m) false x) (listed s k a m)
-    ∙ elim (cases_eq n m) [
-      | inl same ↦ subst (λ j. cond (is_on s k a node && same_number n j) false (passes (is_on s k a) (node_at nodes j)) ≡ passes (is_on s k a) (node_at (remove nodes n) j)) same here
-      | inr differs ↦ other differs
-    ]
-  where
-    here : cond (is_on s k a node && same_number n n) false (passes (is_on s k a) (node_at nodes n)) ≡ passes (is_on s k a) (node_at (remove nodes n) n)
-    here =
-        ap (λ t. cond (is_on s k a node && t) false (passes (is_on s k a) (node_at nodes n))) (number_self n)
-        ∙ ap (λ o. cond (is_on s k a node && true) false (passes (is_on s k a) o)) there ∙ none_on (is_on s k a node)
-        ∙ sym (ap (passes (is_on s k a)) (get-remove nat_cmp_total nodes n n ∙ ap (λ t. cond t None (node_at nodes n)) (tied n n refl)))
-
-    other : n ≢ m → cond (is_on s k a node && same_number n m) false (passes (is_on s k a) (node_at nodes m)) ≡ passes (is_on s k a) (node_at (remove nodes n) m)
-    other differs =
-        ap (λ t. cond (is_on s k a node && t) false (passes (is_on s k a) (node_at nodes m))) (number_apart n m differs)
-        ∙ never (is_on s k a node) false (passes (is_on s k a) (node_at nodes m))
-        ∙ sym (ap (passes (is_on s k a)) (get-remove nat_cmp_total nodes n m ∙ ap (λ t. cond t None (node_at nodes m)) (apart m n (same_turned n m differs))))
-
--- a number that no node has, taken off once more
-pub AreListed-absent : (old new : Lists) (nodes : Nodes) (n : ℕ) (node : Node) → AreListed old nodes → node_at nodes n ≡ None → ChangesAll node n false old new → AreListed new nodes
-AreListed-absent old new nodes n node listed absent goes s k a m =
-    goes s k a m ∙ ap (λ x. cond (is_on s k a node && same_number n m) false x) (listed s k a m)
-    ∙ elim (cases_eq n m) [
-      | inl same ↦ subst (λ j. cond (is_on s k a node && same_number n j) false (passes (is_on s k a) (node_at nodes j)) ≡ passes (is_on s k a) (node_at nodes j)) same here
-      | inr differs ↦
-          ap (λ t. cond (is_on s k a node && t) false (passes (is_on s k a) (node_at nodes m))) (number_apart n m differs) ∙ never (is_on s k a node) false (passes (is_on s k a) (node_at nodes m))
-    ]
-  where
-    nothing : (t : Bool) → cond t false false ≡ false
-    nothing true = refl
-    nothing false = refl
-
-    here : cond (is_on s k a node && same_number n n) false (passes (is_on s k a) (node_at nodes n)) ≡ passes (is_on s k a) (node_at nodes n)
-    here = subst (λ o. cond (is_on s k a node && same_number n n) false (passes (is_on s k a) o) ≡ passes (is_on s k a) o) (sym absent) (nothing (is_on s k a node && same_number n n))
-
-pub inserted_there : (nodes : Nodes) (n : ℕ) (node : Node) → node_at (insert nodes n node) n ≡ Some node
-inserted_there nodes n node = get-insert nat_cmp_total nodes n node n ∙ ap (λ t. cond t (Some node) (node_at nodes n)) (tied n n refl)
-
--- what was put in and taken out again
-pub inserted_removed : (nodes : Nodes) (n : ℕ) (node : Node) → node_at nodes n ≡ None → remove (insert nodes n node) n ≡ nodes
-inserted_removed nodes n node absent =
-    same_items (remove (insert nodes n node) n) nodes (λ q. get-remove nat_cmp_total (insert nodes n node) n q ∙ ap (cond (eq_by_cmp nat_cmp q n) None) (get-insert nat_cmp_total nodes n node q)
-    ∙ taken_away (eq_by_cmp nat_cmp q n) None (Some node) (node_at nodes q) ∙ by q (eq_by_cmp nat_cmp q n) refl)
-  where
-    by : (q : ℕ) (t : Bool) → eq_by_cmp nat_cmp q n ≡ t → cond t None (node_at nodes q) ≡ node_at nodes q
-    by q true e = sym (ap (node_at nodes) (number_is q n e) ∙ absent)
-    by q false e = refl
-
-pub some_same : {X : Type 0} (a b : X) → Some a ≡ Some b → a ≡ b
-some_same a b e = cc
+-- one list more has its head kept
+pub keep_more : (node : Node) (slot : ℕ) (old now new : Heads) (at : Atom) → at ≡ atom_at node slot → KeepsHead node.site slot at (head_at now node.site slot at) now new → SameHeads old now
+    → KeptBelow slot node now → SameHeads old new × KeptBelow (slot + 1) node new
+keep_more node slot old now new at is keeps same kept = (
+  λ s k a. keeps_same node.site slot at now new keeps s k a ∙ same s k a,
+  λ k less. elim (cases_eq k slot) [
+    | inl here ↦ subst (λ v. IsSome (kept_at new node.site v (atom_at node v))) (sym here) (subst (λ b. IsSome (kept_at new node.site slot b)) is (keeps_there node.site slot at (head_at now node.site slot at) now new keeps))
+    | inr differs ↦ keeps_kept node.site slot at (head_at now node.site slot at) now new keeps node.site k (atom_at node k) (kept k (below_last k slot less differs))
+  ],
+)

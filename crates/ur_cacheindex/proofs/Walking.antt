@@ -1,39 +1,42 @@
 -- The walk along a list that has all that is looked for.
-use Rattle.std.proofs.Common.{◌≡◌, ◌≢◌, ℕ, suc, zero, ◌+◌, ◌-◌, ◌<◌, ◌≤◌, ◌==◌, Bool, true, false, ◌&&◌, ◌||◌, cond, nat_lt, min, List, [], ◌∷◌, ◌++◌, length, filter_map, fold, count_by, sum_by, Option, Some, None, option_map, slice_get, slice_index_or, IsSome, refl, sym, ap, subst, ◌∙◌, inl, inr, arith, length-append}
+use Rattle.std.proofs.Common.{◌≡◌, ℕ, suc, zero, ◌+◌, ◌-◌, ◌<◌, ◌≤◌, ◌==◌, Bool, true, false, ◌&&◌, ◌||◌, cond, nat_lt, min, List, [], ◌∷◌, ◌++◌, length, filter_map, fold, count_by, sum_by, Option, Some, None, option_map, slice_get, slice_index_or, IsSome, refl, sym, ap, subst, ◌∙◌, inl, inr, arith, length-append}
 use Rattle.std.proofs.lemmas.Bool.{cases_lt}
 use Rattle.std.proofs.lemmas.List.{append_assoc, append-nil}
-use Rattle.std.specs.List.{filter, enumerate_from, AllByRecursion}
-use Rattle.std.proofs.lemmas.List.Sums.{length-filter}
-use Rattle.std.specs.List.Sorted.{IsStrictlySortedBy}
-use Rattle.std.specs.Ordering.{nat_cmp, eq_by_cmp, is_eq}
-use Rattle.std.specs.declared.cmp.Ordering.TheVariants as ordering
+use Rattle.std.proofs.lemmas.List.Sums.{fold-append}
+use Rattle.std.specs.List.{enumerate_from}
+use Rattle.std.specs.Ordering.{nat_cmp, is_eq}
 use Rattle.std.specs.Cmp.{nat_cmp_total}
-use Rattle.std.specs.BTreeSet.{BTreeSet}
-use Rattle.std.specs.Option.{option_copied}
-use Rattle.std.specs.FinMap.{get, remove, entries, find, len, get-entries, get-remove}
-use Rattle.ur_counted.proofs.Laws.{tied, apart}
+use Rattle.std.specs.Map.{lookup}
+use Rattle.std.specs.FinMap.{get, remove, entries, len, get-remove, get-empty, empty}
+use Rattle.std.specs.Borrow.{Bor}
 use Rattle.ur_values.specs.declared.atom.Atom.{Atom}
 use Rattle.ur_values.specs.declared.value.Value.{Value}
 use Rattle.ur_values.specs.Atom.{atom_value, atom_values, fixed_values}
 use Rattle.ur_values.specs.Order.{value_eq, values_eq}
+use Rattle.ur_chains.specs.Chains.{same_number, lists_number, IsChain, first_of}
+use Rattle.ur_chains.proofs.Chains.{number_is, true_false, here, behind, chain_next, chain_first, without_behind}
 use Rattle.ur_cacheindex.specs.declared.node.Mask.{Mask}
 use Rattle.ur_cacheindex.specs.declared.node.Node.{Node}
 use Rattle.ur_cacheindex.specs.declared.node.NodeId.{NodeId}
-use Rattle.ur_cacheindex.specs.declared.lists.Lists.{Lists}
-use Rattle.ur_cacheindex.specs.declared.lists.Listed.{Listed}
-use Rattle.std.specs.Borrow.{Bor}
+use Rattle.ur_cacheindex.specs.declared.linked.Linked.{Linked}
+use Rattle.ur_cacheindex.specs.declared.heads.Head.{Head}
+use Rattle.ur_cacheindex.specs.declared.heads.Heads.{Heads}
+use Rattle.ur_cacheindex.specs.declared.walk.Listed.{Listed}
 use Rattle.ur_cacheindex.specs.declared.wanted.Wanted.{Wanted}
 use Rattle.ur_cacheindex.specs.declared.wanted.Wanted.TheVariants as wanted
 use Rattle.ur_cacheindex.specs.Nodes.{Nodes}
 use Rattle.ur_cacheindex.specs.Matching.{position_matches, key_matches, node_matches}
-use Rattle.ur_cacheindex.specs.Calls.{passes, NoNode, TakesOut, DropsIn, has_at, site_len, position_len, fixed_lens, shortest, drop_cost}
-use Rattle.ur_cacheindex.specs.Plain.{Dropped, with_node, DropsAt}
-use Rattle.ur_cacheindex.specs.Lists.{same_number, same_atom, lists_number, numbers_in, numbers_at, every, atom_at, slots_of, is_on, AreListed, ChangesAll}
+use Rattle.ur_cacheindex.specs.Calls.{passes, NoNode, DropsIn, has_at, site_len, position_len, fixed_lens, shortest, drop_cost}
+use Rattle.ur_cacheindex.specs.Moved.{Dropped, with_node, DropsAt}
+use Rattle.ur_cacheindex.specs.Lists.{place_cmp, same_atom, head_of, head_among, head_at, empty_head, every, atom_at, is_on_below, slots_of, is_on}
+use Rattle.ur_cacheindex.specs.Linked.{Store, Look, look_at, nodes_of, stands, has_slot, is_there, links_of, IsListAt, AreLinked, UnhooksAll}
 use Rattle.ur_cacheindex.specs.Wanted.{wanted_site, wanted_fixed, wanted_takes}
-use Rattle.ur_cacheindex.specs.Walk.{IsListed, Leads, IsWithin, IsShortestBelow, IsShortest, IsShorterAt, least_len, Covers, Dropping, Unlists}
+use Rattle.ur_cacheindex.specs.Walk.{Leads, IsShortestBelow, IsShortest, IsShorterAt, least_len, Covers, Dropping, DropsLists}
 use Rattle.ur_cacheindex.proofs.Atoms.{atom_same}
 use Rattle.ur_cacheindex.proofs.Dropping.{TakesOut-more, room_for_one, len_less}
-use Rattle.ur_cacheindex.proofs.Listing.{atom_is, atom_self, number_self, number_is, both_true, true_false, AreListed-remove}
+use Rattle.ur_cacheindex.proofs.Listing.{atom_is, atom_self, both_true}
+use Rattle.ur_cacheindex.proofs.Stored.{get-nodes_of, length_fits}
+use Rattle.ur_cacheindex.proofs.Linking.{standing, there_slot, none_not}
 
 -- ---- what is looked for is on the lists of its fixed positions
 
@@ -118,100 +121,59 @@ atom_of : (w : Wanted) (node : Node) (p : ℕ) (a : Atom) → wanted_takes w nod
 atom_of (wanted.Mask mask) node p a takes fixed = matched_at mask.now.keys node.key p a (both_true (mask.now.site == node.site) (key_matches (fixed_values mask.now.keys) (atom_values node.key)) takes).1 fixed
 atom_of (wanted.Key site key) node p a takes fixed = equal_at key.now node.key p a (both_true (site == node.site) (values_eq (atom_values key.now) (atom_values node.key)) takes).1 fixed
 
-pub Leads-site : (w : Wanted) (lists : Lists) (numbers : List ℕ) → numbers ≡ numbers_at lists (wanted_site w) 0 every → Leads w lists numbers
-Leads-site w lists numbers is = record { slot = 0; atom = every; is = is; on = λ node takes. on_site (wanted_site w) node (site_of w node takes) }
+pub Leads-site : (w : Wanted) (heads : Heads) (listed : Listed) → listed.slot ≡ 0 → listed.head ≡ head_at heads (wanted_site w) 0 every → Leads w heads listed
+Leads-site w heads listed first is =
+    record {
+      atom = every;
+      is = subst (λ k. listed.head ≡ head_at heads (wanted_site w) k every) (sym first) is;
+      on = λ node takes. subst (λ k. is_on (wanted_site w) k every node ≡ true) (sym first) (on_site (wanted_site w) node (site_of w node takes));
+    }
 
-pub Leads-position : (w : Wanted) (lists : Lists) (numbers : List ℕ) (p : ℕ) (a : Atom) → wanted_fixed w p ≡ Some a → numbers ≡ numbers_at lists (wanted_site w) (p + 1) a → Leads w lists numbers
-Leads-position w lists numbers p a fixed is =
-    record { slot = p + 1; atom = a; is = is; on = λ node takes. on_position (wanted_site w) node p a (site_of w node takes) (atom_of w node p a takes fixed) }
+pub Leads-position : (w : Wanted) (heads : Heads) (listed : Listed) (p : ℕ) (a : Atom) → listed.slot ≡ p + 1 → wanted_fixed w p ≡ Some a → listed.head ≡ head_at heads (wanted_site w) (p + 1) a → Leads w heads listed
+Leads-position w heads listed p a at fixed is =
+    record {
+      atom = a;
+      is = subst (λ k. listed.head ≡ head_at heads (wanted_site w) k a) (sym at) is;
+      on = λ node takes. subst (λ k. is_on (wanted_site w) k a node ≡ true) (sym at) (on_position (wanted_site w) node p a (site_of w node takes) (atom_of w node p a takes fixed));
+    }
 
-passes_weaker : (test on : Node → Bool) (o : Option Node) → ((node : Node) → test node ≡ true → on node ≡ true) → passes test o ≡ true → passes on o ≡ true
-passes_weaker test on None weaker e = e
-passes_weaker test on (Some node) weaker e = weaker node e
+there_passes : (test : Node → Bool) (s k : ℕ) (a : Atom) (o : Option Linked) → ((x : Linked) → o ≡ Some x → length x.links ≡ slots_of x.node) → ((node : Node) → is_on s k a node ≡ true → test node ≡ true)
+    → stands (is_there s k a) o ≡ true → passes test (option_map (λ x. x.node) o) ≡ true
+there_passes test s k a None shaped counts h = h
+there_passes test s k a (Some x) shaped counts h = counts x.node (sym (ap (λ n. is_on_below n s k a x.node) (shaped x refl)) ∙ h)
 
-pub Covers-from_Leads : (w : Wanted) (lists : Lists) (nodes : Nodes) (numbers : List ℕ) → AreListed lists nodes → Leads w lists numbers → Covers (wanted_takes w) nodes numbers
-Covers-from_Leads w lists nodes numbers listed leads n there =
-    ap (λ ns. lists_number ns n) leads.is ∙ listed (wanted_site w) leads.slot leads.atom n
-    ∙ passes_weaker (wanted_takes w) (is_on (wanted_site w) leads.slot leads.atom) (get nodes n) leads.on there
+passes_there : (test : Node → Bool) (s k : ℕ) (a : Atom) (o : Option Linked) → ((x : Linked) → o ≡ Some x → length x.links ≡ slots_of x.node) → ((node : Node) → test node ≡ true → is_on s k a node ≡ true)
+    → passes test (option_map (λ x. x.node) o) ≡ true → stands (is_there s k a) o ≡ true
+passes_there test s k a None shaped on h = h
+passes_there test s k a (Some x) shaped on h = ap (λ n. is_on_below n s k a x.node) (shaped x refl) ∙ on x.node h
 
-module _ (w : Wanted) (lists : Lists) (nodes : Nodes) (best : Listed) (o : Option (Bor (BTreeSet ℕ))) (s : IsShortest w lists best) (is : best.numbers ≡ o) where
-  pub Covers-listed : AreListed lists nodes → Covers (wanted_takes w) nodes (numbers_in (option_copied o))
-  Covers-listed listed = subst (λ ns. Covers (wanted_takes w) nodes ns) (sym s.is.0 ∙ ap (λ x. numbers_in (option_copied x)) is) (Covers-from_Leads w lists nodes s.numbers listed s.leads)
+pub Covers-whole : (test : Node → Bool) (heads : Heads) (store : Store) (linked : AreLinked heads (look_at store)) (s k : ℕ) (a : Atom) → ((node : Node) → test node ≡ true → is_on s k a node ≡ true)
+    → Covers test (nodes_of store) (linked.whole s k a).numbers
+Covers-whole test heads store linked s k a on n h =
+    (linked.whole s k a).all n (passes_there test s k a (get store n) (linked.shaped n) on (sym (ap (passes test) (get-nodes_of store n)) ∙ h))
 
-  pub length_listed : length (numbers_in (option_copied o)) ≡ best.len
-  length_listed = ap (λ x. length (numbers_in (option_copied x))) (sym is) ∙ ap length s.is.0 ∙ sym s.is.1
+-- ---- no lists
 
--- ---- the length of a list is at most the number of nodes that are on it
-
-not_both : (t : Bool) → t ≡ true → t ≡ false → ⊥
-not_both t e f = true_false (sym e ∙ f)
-
-less_apart : (x y : ℕ) → nat_cmp x y ≡ ordering.Less → x ≢ y
-less_apart x y less e = true_false (sym (tied x y e) ∙ ap is_eq less)
-
--- the entries without the first that has this number
-abbrev without : ℕ → List (ℕ × Node) → List (ℕ × Node)
-without n [] = []
-without n (e ∷ es) = cond (same_number n e.0) es (e ∷ without n es)
-
-find_without : (n k : ℕ) (es : List (ℕ × Node)) → n ≢ k → find nat_cmp k (without n es) ≡ find nat_cmp k es
-find_without n k [] differs = refl
-find_without n k (e ∷ es) differs = by (find_without n k es differs) (same_number n e.0) refl
+pub linked_empty : (heads : Heads) (store : Store) → heads.places.entries ≡ [] → store ≡ empty → AreLinked heads (look_at store)
+linked_empty heads store none is =
+    record {
+      whole = λ s k a.
+          record {
+            numbers = [];
+            is = record {
+              chain = subst (λ h. IsChain (links_of (look_at store) k) h.first h.len []) (sym (no_head s k a)) (record { strung = refl; once = refl; many = refl });
+              on = λ m on. absurd (true_false (sym on));
+            };
+            all = λ m h. absurd (standing (is_there s k a) (get store m) h (nothing m));
+          };
+      shaped = λ m x e. absurd (none_not x (sym (nothing m) ∙ e));
+    }
   where
-    other : n ≡ e.0 → k ≡ e.0 → ⊥
-    other a b = differs (a ∙ sym b)
+    nothing : (m : ℕ) → get store m ≡ None
+    nothing m = ap (λ s. get s m) is ∙ get-empty nat_cmp m
 
-    by : find nat_cmp k (without n es) ≡ find nat_cmp k es → (t : Bool) → same_number n e.0 ≡ t → find nat_cmp k (cond t es (e ∷ without n es)) ≡ find nat_cmp k (e ∷ es)
-    by rest true is = sym (ap (λ t. cond t (Some e.1) (find nat_cmp k es)) (apart k e.0 (other (number_is n e.0 is))))
-    by rest false is = ap (cond (eq_by_cmp nat_cmp k e.0) (Some e.1)) rest
-
-less_of : (x : ℕ) (ys : List ℕ) (k : ℕ) → AllByRecursion (λ y. nat_cmp x y ≡ ordering.Less) ys → lists_number ys k ≡ true → nat_cmp x k ≡ ordering.Less
-less_of x [] k below on = absurd (true_false (sym on))
-less_of x (y ∷ ys) k below on = by (less_of x ys k below.1) (same_number k y) refl on
-  where
-    by : (lists_number ys k ≡ true → nat_cmp x k ≡ ordering.Less) → (t : Bool) → same_number k y ≡ t → (t || lists_number ys k) ≡ true → nat_cmp x k ≡ ordering.Less
-    by rest true is h = subst (λ j. nat_cmp x j ≡ ordering.Less) (sym (number_is k y is)) below.0
-    by rest false is h = rest h
-
-one_more_kept : (x : ℕ × Node) (xs : List (ℕ × Node)) → length (x ∷ xs) ≡ 1 + length xs
-one_more_kept x xs = omega arith
-
-both_more : (x : ℕ × Node) (xs ys : List (ℕ × Node)) → length xs ≡ 1 + length ys → length (x ∷ xs) ≡ 1 + length (x ∷ ys)
-both_more x xs ys e = omega (arith, e)
-
-module _ (test : Node → Bool) where
-  abbrev kept : List (ℕ × Node) → List (ℕ × Node)
-  kept = filter (λ x. test x.1)
-
-  one_kept : (n : ℕ) (es : List (ℕ × Node)) → passes test (find nat_cmp n es) ≡ true → length (kept es) ≡ 1 + length (kept (without n es))
-  one_kept n [] there = absurd (true_false (sym there))
-  one_kept n (e ∷ es) there =
-      elim (same_number n e.0) as (λ t. passes test (cond t (Some e.1) (find nat_cmp n es)) ≡ true
-      → length (cond (test e.1) (e ∷ kept es) (kept es)) ≡ 1 + length (kept (cond t es (e ∷ without n es)))) [
-        | true ↦ λ here. ap (λ b. length (cond b (e ∷ kept es) (kept es))) here ∙ one_more_kept e (kept es)
-        | false ↦ λ later. elim (test e.1) as (λ b. length (cond b (e ∷ kept es) (kept es)) ≡ 1 + length (cond b (e ∷ kept (without n es)) (kept (without n es)))) [
-          | true ↦ both_more e (kept es) (kept (without n es)) (one_kept n es later)
-          | false ↦ one_kept n es later
-        ]
-      ] there
-
-  later_on : (t r : Bool) → r ≡ true → (t || r) ≡ true
-  later_on true r e = refl
-  later_on false r e = e
-
-  fits_entries : (xs : List ℕ) (es : List (ℕ × Node)) → IsStrictlySortedBy nat_cmp xs → ((k : ℕ) → lists_number xs k ≡ true → passes test (find nat_cmp k es) ≡ true)
-      → length xs ≤ length (kept es)
-  unfolding IsStrictlySortedBy
-  fits_entries [] es sorted all = omega arith
-  fits_entries (x ∷ xs) es sorted all =
-      let here = all x (ap (λ t. t || lists_number xs x) (number_self x)) in
-      let rest = fits_entries xs (without x es) sorted.1 (λ k on. ap (passes test) (find_without x k es (less_apart x k (less_of x xs k sorted.0 on))) ∙ all k (later_on (same_number k x) (lists_number xs k) on)) in
-      omega (arith, one_kept x es here, rest)
-
-  pub length_fits : (nodes : Nodes) (xs : List ℕ) → IsStrictlySortedBy nat_cmp xs → ((k : ℕ) → lists_number xs k ≡ true → passes test (get nodes k) ≡ true)
-      → length xs ≤ count_by (λ e. test e.1) (entries nodes)
-  length_fits nodes xs sorted all =
-      subst (λ n. length xs ≤ n) (length-filter (λ (e : ℕ × Node). test e.1) (entries nodes)) (fits_entries xs (entries nodes) sorted (λ k on. ap (passes test) (sym (get-entries nodes k)) ∙ all k on))
+    no_head : (s k : ℕ) (a : Atom) → head_at heads s k a ≡ empty_head
+    no_head s k a = ap (λ es. head_of (head_among (lookup (λ q. is_eq (place_cmp (s, k) q)) es) a)) none
 
 -- ---- the bound
 
@@ -240,15 +202,20 @@ on_position_counts s p a node on =
     let k = both_true (nat_lt (p + 1) (slots_of node)) (same_atom (atom_at node (p + 1)) a) h.1 in
     has_there s node.site node.key p a (slot_within p (length node.key) k.0) (subst (λ x. same_atom x a ≡ true) (atom_past node p) k.1) (site_same s node.site h.0)
 
-module _ (lists : Lists) (nodes : Nodes) (listed : AreListed lists nodes) where
-  len_at : (test : Node → Bool) (n s k : ℕ) (a : Atom) → IsWithin n (numbers_at lists s k a) → ((node : Node) → is_on s k a node ≡ true → test node ≡ true) → n ≤ count_by (λ e. test e.1) (entries nodes)
+module _ (heads : Heads) (store : Store) (linked : AreLinked heads (look_at store)) where
+  len_at : (test : Node → Bool) (n s k : ℕ) (a : Atom) → n ≤ (head_at heads s k a).len → ((node : Node) → is_on s k a node ≡ true → test node ≡ true) → n ≤ count_by (λ e. test e.1) (entries (nodes_of store))
   len_at test n s k a within counts =
-      omega (arith, within.0, length_fits test nodes (numbers_at lists s k a) within.1 (λ m on. passes_weaker (is_on s k a) test (get nodes m) counts (sym (listed s k a m) ∙ on)))
+      let w = linked.whole s k a in
+      let fits = length_fits test (nodes_of store) w.numbers w.is.chain.once
+      (λ m on. ap (passes test) (get-nodes_of store m) ∙ there_passes test s k a (get store m) (linked.shaped m) counts (w.is.on m on))
+      in
+      let many = w.is.chain.many in
+      omega (arith, within, fits, many)
 
-  site_bound : (n s : ℕ) → IsWithin n (numbers_at lists s 0 every) → n ≤ site_len nodes s
+  site_bound : (n s : ℕ) → n ≤ (head_at heads s 0 every).len → n ≤ site_len (nodes_of store) s
   site_bound n s within = len_at (λ node. node.site == s) n s 0 every within (on_site_counts s)
 
-  position_bound : (n s p : ℕ) (a : Atom) → IsWithin n (numbers_at lists s (p + 1) a) → n ≤ position_len nodes s p (atom_value a)
+  position_bound : (n s p : ℕ) (a : Atom) → n ≤ (head_at heads s (p + 1) a).len → n ≤ position_len (nodes_of store) s p (atom_value a)
   position_bound n s p a within = len_at (has_at s p (atom_value a)) n s (p + 1) a within (on_position_counts s p a)
 
 AtLeast : ℕ → List ℕ → Type 0
@@ -289,62 +256,56 @@ past_all [] p a fixed = absurd (none_is_some a fixed)
 past_all (k ∷ keys) zero a fixed = omega arith
 past_all (k ∷ keys) (suc p) a fixed = omega (arith, past_all keys p a fixed)
 
-pub least-of_shortest : (lists : Lists) (nodes : Nodes) (mask : Bor Mask) (best : Listed) → AreListed lists nodes → IsShortest (wanted.Mask mask) lists best → best.len ≤ least_len nodes mask.now
-least-of_shortest lists nodes mask best listed s =
-    shortest_least best.len (fixed_lens nodes mask.now) (site_len nodes mask.now.site) (site_bound lists nodes listed best.len mask.now.site s.site)
-    (fixed_least best.len (position_len nodes mask.now.site) 0 mask.now.keys (λ p a fixed.
-    subst (λ k. best.len ≤ position_len nodes mask.now.site k (atom_value a)) (sym (zero_plus p)) (position_bound lists nodes listed best.len mask.now.site p a (s.fixed p a (past_all mask.now.keys p a fixed) fixed))))
+pub least-of_shortest : (heads : Heads) (store : Store) (mask : Bor Mask) (best : Listed) → AreLinked heads (look_at store) → IsShortest (wanted.Mask mask) heads best
+    → best.head.len ≤ least_len (nodes_of store) mask.now
+least-of_shortest heads store mask best linked s =
+    shortest_least best.head.len (fixed_lens (nodes_of store) mask.now) (site_len (nodes_of store) mask.now.site) (site_bound heads store linked best.head.len mask.now.site s.site)
+    (fixed_least best.head.len (position_len (nodes_of store) mask.now.site) 0 mask.now.keys (λ p a fixed.
+    subst (λ k. best.head.len ≤ position_len (nodes_of store) mask.now.site k (atom_value a)) (sym (zero_plus p))
+    (position_bound heads store linked best.head.len mask.now.site p a (s.fixed p a (past_all mask.now.keys p a fixed) fixed))))
   where
     zero_plus : (p : ℕ) → 0 + p ≡ p
     zero_plus p = omega arith
 
 -- ---- the shortest list
 
-pub IsShortestBelow-start : (w : Wanted) (lists : Lists) (best : Listed) → IsListed best (numbers_at lists (wanted_site w) 0 every) → IsShortestBelow w lists 0 best
-IsShortestBelow-start w lists best is = record {
-  numbers = numbers_at lists (wanted_site w) 0 every;
-  is = is;
-  leads = Leads-site w lists (numbers_at lists (wanted_site w) 0 every) refl;
-  site = (omega (arith, is.1), is.2);
-  fixed = λ p a below f. absurd (omega (arith, below));
-}
+pub IsShortestBelow-start : (w : Wanted) (heads : Heads) (best : Listed) → best.slot ≡ 0 → best.head ≡ head_at heads (wanted_site w) 0 every → IsShortestBelow w heads 0 best
+IsShortestBelow-start w heads best first is =
+    let same : best.head.len ≡ (head_at heads (wanted_site w) 0 every).len = ap (λ h. h.len) is in
+    record { leads = Leads-site w heads best first is; site = omega (arith, same); fixed = λ p a below f. absurd (omega (arith, below)) }
 
-within_less : (n m : ℕ) (ns : List ℕ) → n ≤ m → IsWithin m ns → IsWithin n ns
-within_less n m ns less w = (omega (arith, less, w.0), w.1)
-
-module _ (w : Wanted) (lists : Lists) (position : ℕ) (old : Listed) where
+module _ (w : Wanted) (heads : Heads) (position : ℕ) (old : Listed) where
   here_or_below : (P : ℕ → Type 0) (p : ℕ) → p < position + 1 → (p < position → P p) → P position → P p
   here_or_below P p less below here =
       elim (cases_lt p position) [ inl lower ↦ below lower | inr not_lower ↦ let same : position ≡ p = omega (arith, less, not_lower) in subst P same here ]
 
-  pub IsShorterAt-free : wanted_fixed w position ≡ None → IsShorterAt w lists position old old
+  pub IsShorterAt-free : wanted_fixed w position ≡ None → IsShorterAt w heads position old old
   IsShorterAt-free none s =
-      record { numbers = s.numbers; is = s.is; leads = s.leads; site = s.site; fixed = λ p a less f. here_or_below (λ q. wanted_fixed w q ≡ Some a → IsWithin old.len (numbers_at lists (wanted_site w) (q + 1) a)) p less (λ below g. s.fixed p a below g) (λ g. absurd (none_is_some a (sym none ∙ g))) f }
+      record { leads = s.leads; site = s.site; fixed = λ p a less f. here_or_below (λ q. wanted_fixed w q ≡ Some a → old.head.len ≤ (head_at heads (wanted_site w) (q + 1) a).len) p less (λ below g. s.fixed p a below g) (λ g. absurd (none_is_some a (sym none ∙ g))) f }
 
-  module _ (at : Atom) (other : Listed) (is_fixed : wanted_fixed w position ≡ Some at) (is : IsListed other (numbers_at lists (wanted_site w) (position + 1) at)) where
+  module _ (at : Atom) (is_fixed : wanted_fixed w position ≡ Some at) where
     atom_here : (a : Atom) → wanted_fixed w position ≡ Some a → at ≡ a
     atom_here a f = some_is at a (sym is_fixed ∙ f)
 
-    pub IsShorterAt-taken : other.len < old.len → IsShorterAt w lists position old other
-    IsShorterAt-taken shorter s = record {
-      numbers = numbers_at lists (wanted_site w) (position + 1) at;
-      is = is;
-      leads = Leads-position w lists (numbers_at lists (wanted_site w) (position + 1) at) position at is_fixed refl;
-      site = within_less other.len old.len (numbers_at lists (wanted_site w) 0 every) (omega (arith, shorter)) s.site;
-      fixed = λ p a less f. here_or_below (λ q. wanted_fixed w q ≡ Some a → IsWithin other.len (numbers_at lists (wanted_site w) (q + 1) a)) p less
-          (λ below g. within_less other.len old.len (numbers_at lists (wanted_site w) (p + 1) a) (omega (arith, shorter)) (s.fixed p a below g))
-          (λ g. subst (λ x. IsWithin other.len (numbers_at lists (wanted_site w) (position + 1) x)) (atom_here a g) (omega (arith, is.1), is.2)) f;
-    }
-
-    pub IsShorterAt-left : old.len ≤ other.len → IsShorterAt w lists position old old
-    IsShorterAt-left longer s =
+    pub IsShorterAt-taken : (new : Listed) → new.slot ≡ position + 1 → new.head ≡ head_at heads (wanted_site w) (position + 1) at → new.head.len < old.head.len → IsShorterAt w heads position old new
+    IsShorterAt-taken new slot is shorter s =
+        let same : new.head.len ≡ (head_at heads (wanted_site w) (position + 1) at).len = ap (λ h. h.len) is in
         record {
-          numbers = s.numbers;
-          is = s.is;
+          leads = Leads-position w heads new position at slot is_fixed is;
+          site = let t = s.site in omega (arith, shorter, t);
+          fixed = λ p a less f. here_or_below (λ q. wanted_fixed w q ≡ Some a → new.head.len ≤ (head_at heads (wanted_site w) (q + 1) a).len) p less
+              (λ below g. let t = s.fixed p a below g in omega (arith, shorter, t))
+              (λ g. subst (λ x. new.head.len ≤ (head_at heads (wanted_site w) (position + 1) x).len) (atom_here a g) (omega (arith, same))) f;
+        }
+
+    pub IsShorterAt-left : (other : Head) → other ≡ head_at heads (wanted_site w) (position + 1) at → old.head.len ≤ other.len → IsShorterAt w heads position old old
+    IsShorterAt-left other is longer s =
+        let same : other.len ≡ (head_at heads (wanted_site w) (position + 1) at).len = ap (λ h. h.len) is in
+        record {
           leads = s.leads;
           site = s.site;
-          fixed = λ p a less f. here_or_below (λ q. wanted_fixed w q ≡ Some a → IsWithin old.len (numbers_at lists (wanted_site w) (q + 1) a)) p less (λ below g. s.fixed p a below g)
-              (λ g. subst (λ x. IsWithin old.len (numbers_at lists (wanted_site w) (position + 1) x)) (atom_here a g) (omega (arith, is.1, longer), is.2)) f;
+          fixed = λ p a less f. here_or_below (λ q. wanted_fixed w q ≡ Some a → old.head.len ≤ (head_at heads (wanted_site w) (q + 1) a).len) p less (λ below g. s.fixed p a below g)
+              (λ g. subst (λ x. old.head.len ≤ (head_at heads (wanted_site w) (position + 1) x).len) (atom_here a g) (omega (arith, same, longer))) f;
         }
 
 -- ---- along the list
@@ -374,17 +335,21 @@ Covers-taken test nodes x rest covers k there = by (same_number k x) refl (sym (
     by true is h = absurd (true_false (sym h))
     by false is h = subst (λ t. (t || lists_number rest k) ≡ true) is (covers k h)
 
+one_dropped : (es : List (NodeId × Node)) (e : NodeId × Node) → sum_by drop_cost (es ++ e ∷ []) ≡ sum_by drop_cost es + drop_cost e
+one_dropped es e = fold-append (λ a x. a + drop_cost x) 0 es (e ∷ [])
+
 module _ (mask : Mask) (old : Nodes) (before : Dropped) (allowed : ℕ) where
   pub Dropping-start : (keys : List ℕ) (steps : ℕ) → len old ≤ before.spare → Covers (node_matches mask) old keys → steps + length keys ≤ allowed → Dropping mask old before allowed keys old before steps
   Dropping-start keys steps fits covers within =
       record { dropped = []; items = sym (append-nil before.items); out = refl; fits = fits; sum = refl; covers = covers; count = omega (arith, within) }
 
   dropping_one : (x : ℕ) (rest : List ℕ) (now : Nodes) (room after : Dropped) (steps end : ℕ) (node : Node) → Dropping mask old before allowed (x ∷ rest) now room steps
-      → get now x ≡ Some node → node_matches mask node ≡ true → after ≡ with_node room x node → end + length room.items ≤ steps + 1 + length after.items
+      → get now x ≡ Some node → node_matches mask node ≡ true → after ≡ with_node room x node → end + sum_by drop_cost room.items ≤ steps + 1 + sum_by drop_cost after.items
       → Dropping mask old before allowed rest (remove now x) after end
   dropping_one x rest now room after steps end node d found passed put count =
       let more : length after.items ≡ length room.items + 1 = ap (λ r. length r.items) put ∙ length-append room.items ((record { number = x }, node) ∷ []) in
-      let one_more = length-append d.dropped ((record { number = x }, node) ∷ []) in
+      let one_cost = one_dropped d.dropped (record { number = x }, node) in
+      let costs = ap (sum_by drop_cost) (ap (λ r. r.items) put) ∙ one_dropped room.items (record { number = x }, node) in
       let here = d.count in
       record {
         dropped = d.dropped ++ (record { number = x }, node) ∷ [];
@@ -394,13 +359,13 @@ module _ (mask : Mask) (old : Nodes) (before : Dropped) (allowed : ℕ) where
         sum = subst (λ r. r.spare + length r.items ≡ before.spare + length before.items) (sym put)
             (omega (arith, d.sum, room_for_one now x room.spare (subst IsSome (sym found) refl) d.fits, length-append room.items ((record { number = x }, node) ∷ [])));
         covers = Covers-taken (node_matches mask) now x rest d.covers;
-        count = omega (arith, count, more, one_more, here);
+        count = omega (arith, count, costs, one_cost, here);
       }
 
   skipping_one : (x : ℕ) (rest : List ℕ) (now : Nodes) (room after : Dropped) (steps end : ℕ) → Dropping mask old before allowed (x ∷ rest) now room steps
-      → passes (node_matches mask) (get now x) ≡ false → after ≡ room → end + length room.items ≤ steps + 1 + length after.items → Dropping mask old before allowed rest now after end
+      → passes (node_matches mask) (get now x) ≡ false → after ≡ room → end + sum_by drop_cost room.items ≤ steps + 1 + sum_by drop_cost after.items → Dropping mask old before allowed rest now after end
   skipping_one x rest now room after steps end d none put count =
-      let same : length after.items ≡ length room.items = ap (λ r. length r.items) put in
+      let same : sum_by drop_cost after.items ≡ sum_by drop_cost room.items = ap (λ r. sum_by drop_cost r.items) put in
       let here = d.count in
       record {
         dropped = d.dropped;
@@ -413,7 +378,7 @@ module _ (mask : Mask) (old : Nodes) (before : Dropped) (allowed : ℕ) where
       }
 
   pub Dropping-more : (x : ℕ) (rest : List ℕ) (now new : Nodes) (room after : Dropped) (steps end : ℕ) → Dropping mask old before allowed (x ∷ rest) now room steps
-      → DropsAt mask x now room new after → end + length room.items ≤ steps + 1 + length after.items → Dropping mask old before allowed rest new after end
+      → DropsAt mask x now room new after → end + sum_by drop_cost room.items ≤ steps + 1 + sum_by drop_cost after.items → Dropping mask old before allowed rest new after end
   Dropping-more x rest now new room after steps end d step count = by (passes (node_matches mask) (get now x)) refl
     where
       by : (b : Bool) → passes (node_matches mask) (get now x) ≡ b → Dropping mask old before allowed rest new after end
@@ -424,35 +389,164 @@ module _ (mask : Mask) (old : Nodes) (before : Dropped) (allowed : ℕ) where
 pub Dropping-allowed : (mask : Mask) (old : Nodes) (before : Dropped) (few many : ℕ) (left : List ℕ) (new : Nodes) (after : Dropped) (end : ℕ) → few ≤ many
     → Dropping mask old before few left new after end → Dropping mask old before many left new after end
 Dropping-allowed mask old before few many left new after end less d =
-    record { dropped = d.dropped; items = d.items; out = d.out; fits = d.fits; sum = d.sum; covers = d.covers; count = omega (arith, less, d.count) }
-
-cost_each : (start more : ℕ) (es : List (NodeId × Node)) → start ≤ more → start + length es ≤ fold (λ a e. a + drop_cost e) more es
-cost_each start more [] less = omega (arith, less)
-cost_each start more (e ∷ es) less =
-    let rest = cost_each (start + 1) (more + drop_cost e) es (omega (arith, less)) in
-    omega (arith, rest)
+    let c = d.count in record { dropped = d.dropped; items = d.items; out = d.out; fits = d.fits; sum = d.sum; covers = d.covers; count = omega (arith, less, c) }
 
 pub DropsIn-from_Dropping : (mask : Mask) (old new : Nodes) (before after : Dropped) (start end : ℕ) → Dropping mask old before (start + least_len old mask) [] new after end
     → DropsIn mask old new before.items after.items start end
-DropsIn-from_Dropping mask old new before after start end d =
-    (d.dropped, d.items, record { out = d.out; left = NoNode-from_Covers (node_matches mask) new d.covers }, within (cost_each 0 0 d.dropped (omega arith)) d.count)
+DropsIn-from_Dropping mask old new before after start end d = (d.dropped, d.items, record { out = d.out; left = NoNode-from_Covers (node_matches mask) new d.covers }, within d.count)
   where
-    within : 0 + length d.dropped ≤ sum_by drop_cost d.dropped → end + 0 ≤ start + least_len old mask + length d.dropped → end ≤ start + (least_len old mask + sum_by drop_cost d.dropped)
-    within a b = omega (arith, a, b)
+    within : end + 0 ≤ start + least_len old mask + sum_by drop_cost d.dropped → end ≤ start + (least_len old mask + sum_by drop_cost d.dropped)
+    within b = omega (arith, b)
 
--- ---- those that were moved out go off their lists
+-- ---- where a walk stands
 
-abbrev pub UnlistsBelow : List (NodeId × Node) → List (NodeId × Node) → Lists → Lists → Type 0
-UnlistsBelow all rest old now =
-    (test : Node → Bool) (before after : Nodes) → TakesOut test before all after → AreListed old before → (mid : Nodes) × TakesOut test mid rest after × AreListed now mid
+-- `at` stands on a list from which all that is looked for and is not behind the walk can still be reached
+pub record Walks (test : Node → Bool) (heads : Heads) (store : Store) (slot : ℕ) (at : Option ℕ) (done whole : ℕ) : Type 0 where
+  pub site : ℕ
+  pub atom : Atom
+  pub front : List ℕ
+  pub rest : List ℕ
+  pub is : IsListAt heads (look_at store) site slot atom (front ++ rest)
+  pub first : at ≡ first_of rest
+  pub covers : Covers test (nodes_of store) rest
+  pub count : done + length rest ≡ whole
 
-pub UnlistsBelow-start : (all : List (NodeId × Node)) (old : Lists) → UnlistsBelow all all old old
-UnlistsBelow-start all old test before after out listed = (before, out, listed)
+pub Walks-start : (w : Wanted) (heads : Heads) (store : Store) (listed : Listed) → AreLinked heads (look_at store) → Leads w heads listed
+    → Walks (wanted_takes w) heads store listed.slot listed.head.first 0 listed.head.len
+Walks-start w heads store listed linked leads =
+    let whole = linked.whole (wanted_site w) listed.slot leads.atom in
+    let h = head_at heads (wanted_site w) listed.slot leads.atom in
+    let many : h.len ≡ length whole.numbers = whole.is.chain.many in
+    let same : listed.head.len ≡ h.len = ap (λ x. x.len) leads.is in
+    record {
+      site = wanted_site w;
+      atom = leads.atom;
+      front = [];
+      rest = whole.numbers;
+      is = whole.is;
+      first = ap (λ x. x.first) leads.is ∙ chain_first (links_of (look_at store) listed.slot) h.first h.len whole.numbers whole.is.chain;
+      covers = Covers-whole (wanted_takes w) heads store linked (wanted_site w) listed.slot leads.atom leads.on;
+      count = omega (arith, many, same);
+    }
 
-pub UnlistsBelow-more : (all : List (NodeId × Node)) (e : NodeId × Node) (rest : List (NodeId × Node)) (old now new : Lists) → UnlistsBelow all (e ∷ rest) old now
-    → ChangesAll e.1 e.0.number false now new → UnlistsBelow all rest old new
-UnlistsBelow-more all e rest old now new below goes test before after out listed =
-    let b = below test before after out listed in (remove b.0 e.0.number, b.1.2, AreListed-remove now new b.0 e.0.number e.1 b.2 b.1.0 goes)
+none_left : (rest : List ℕ) → None ≡ first_of rest → rest ≡ []
+none_left [] e = refl
+none_left (x ∷ rest) e = absurd (none_is_some x e)
 
-pub Unlists-end : (all : List (NodeId × Node)) (old now : Lists) → UnlistsBelow all [] old now → Unlists all old now
-Unlists-end all old now below test before after out listed = let b = below test before after out listed in subst (λ m. AreListed now m) (sym b.1) b.2
+among : (front : List ℕ) (n : ℕ) (rest : List ℕ) → lists_number (front ++ n ∷ rest) n ≡ true
+among [] n rest = here n rest
+among (x ∷ front) n rest = behind x n (front ++ n ∷ rest) (among front n rest)
+
+-- the number where a walk stands, and the rest behind it
+pub first_rest : (n : ℕ) (rest : List ℕ) → Some n ≡ first_of rest → (more : List ℕ) × (rest ≡ n ∷ more)
+first_rest n [] e = absurd (none_is_some n (sym e))
+first_rest n (x ∷ more) e = (more, ap (λ y. y ∷ more) (sym (some_is n x e)))
+
+module _ (test : Node → Bool) (heads : Heads) (store : Store) (slot : ℕ) (at : Option ℕ) (done whole : ℕ) (w : Walks test heads store slot at done whole) where
+  pub Walks-none : at ≡ None → w.rest ≡ []
+  Walks-none none = none_left w.rest (sym none ∙ w.first)
+
+  pub Walks-done : whole ≤ done → w.rest ≡ []
+  Walks-done over = by w.rest w.count
+    where
+      by : (rest : List ℕ) → done + length rest ≡ whole → rest ≡ []
+      by [] e = refl
+      by (x ∷ rest) e = absurd (omega (arith, e, over))
+
+  pub Walks-no_node : w.rest ≡ [] → NoNode test (nodes_of store)
+  Walks-no_node none = NoNode-from_Covers test (nodes_of store) (subst (λ ns. Covers test (nodes_of store) ns) none w.covers)
+
+  module _ (n : ℕ) (is_at : at ≡ Some n) where
+    pub Walks-rest : (more : List ℕ) × (w.rest ≡ n ∷ more)
+    Walks-rest = first_rest n w.rest (sym is_at ∙ w.first)
+
+    pub Walks-list : IsListAt heads (look_at store) w.site slot w.atom (w.front ++ n ∷ Walks-rest.0)
+    Walks-list = subst (λ ns. IsListAt heads (look_at store) w.site slot w.atom (w.front ++ ns)) Walks-rest.1 w.is
+
+    pub Walks-there : stands (is_there w.site slot w.atom) (get store n) ≡ true
+    Walks-there = Walks-list.on n (among w.front n Walks-rest.0)
+
+    pub Walks-slot : stands (has_slot slot) (get store n) ≡ true
+    Walks-slot = there_slot w.site slot w.atom (get store n) Walks-there
+
+    pub Walks-some : IsSome (get store n)
+    Walks-some = some (get store n) Walks-there
+      where
+        some : (o : Option Linked) → stands (is_there w.site slot w.atom) o ≡ true → IsSome o
+        some None h = absurd (true_false (sym h))
+        some (Some x) h = refl
+
+    pub Walks-next : (links_of (look_at store) slot).next n ≡ first_of Walks-rest.0
+    Walks-next = chain_next (links_of (look_at store) slot) (head_at heads w.site slot w.atom).first (head_at heads w.site slot w.atom).len w.front n Walks-rest.0 Walks-list.chain
+
+    pub Walks-on : (next : Option ℕ) → next ≡ (links_of (look_at store) slot).next n → passes test (get (nodes_of store) n) ≡ false → Walks test heads store slot next (done + 1) whole
+    Walks-on next is none =
+        let long : length w.rest ≡ length (n ∷ Walks-rest.0) = ap length Walks-rest.1 in
+        let c = w.count in
+        record {
+          site = w.site;
+          atom = w.atom;
+          front = w.front ++ n ∷ [];
+          rest = Walks-rest.0;
+          is = subst (λ ns. IsListAt heads (look_at store) w.site slot w.atom ns) (sym (append_assoc w.front (n ∷ []) Walks-rest.0)) Walks-list;
+          first = is ∙ Walks-next;
+          covers = Covers-past test (nodes_of store) n Walks-rest.0 none (subst (λ ns. Covers test (nodes_of store) ns) Walks-rest.1 w.covers);
+          count = omega (arith, long, c);
+        }
+
+-- ---- a walk that moves nodes out
+
+pub record Moves (mask : Mask) (old : Nodes) (before : Dropped) (allowed : ℕ) (heads : Heads) (store : Store) (slot : ℕ) (at : Option ℕ) (done whole : ℕ) (after : Dropped) (steps : ℕ) : Type 0 where
+  pub linked : AreLinked heads (look_at store)
+  pub walks : Walks (node_matches mask) heads store slot at done whole
+  pub dropping : Dropping mask old before allowed walks.rest (nodes_of store) after steps
+
+pub Moves-start : (mask : Bor Mask) (heads : Heads) (store : Store) (listed : Listed) (before : Dropped) (steps : ℕ) → AreLinked heads (look_at store) → Leads (wanted.Mask mask) heads listed
+    → len (nodes_of store) ≤ before.spare → Moves mask.now (nodes_of store) before (steps + listed.head.len) heads store listed.slot listed.head.first 0 listed.head.len before steps
+Moves-start mask heads store listed before steps linked leads fits =
+    let w = Walks-start (wanted.Mask mask) heads store listed linked leads in
+    let c = w.count in
+    record { linked = linked; walks = w; dropping = Dropping-start mask.now (nodes_of store) before (steps + listed.head.len) w.rest steps fits w.covers (omega (arith, c)) }
+
+pub DropsLists-kept : (n : ℕ) (heads : Heads) (look : Look) → DropsLists n heads look heads look
+DropsLists-kept n heads look s k a front rest is = (front ++ n ∷ [], subst (λ ns. IsListAt heads look s k a ns) (sym (append_assoc front (n ∷ []) rest)) is)
+
+pub DropsLists-taken : (n : ℕ) (heads heads' : Heads) (look look' : Look) → UnhooksAll n heads look heads' look' → DropsLists n heads look heads' look'
+DropsLists-taken n heads heads' look look' goes s k a front rest is =
+    (front, subst (λ ns. IsListAt heads' look' s k a ns) (without_behind front n rest is.chain.once) (goes s k a (front ++ n ∷ rest) is))
+
+module _ (mask : Mask) (old : Nodes) (before : Dropped) (allowed : ℕ) (heads : Heads) (store : Store) (slot : ℕ) (at : Option ℕ) (done whole : ℕ) (after : Dropped) (steps : ℕ)
+    (m : Moves mask old before allowed heads store slot at done whole after steps) where
+  pub Moves-end : m.walks.rest ≡ [] → Dropping mask old before allowed [] (nodes_of store) after steps
+  Moves-end none = subst (λ ns. Dropping mask old before allowed ns (nodes_of store) after steps) none m.dropping
+
+  module _ (n : ℕ) (is_at : at ≡ Some n) where
+    pub Moves-slot : stands (has_slot slot) (get store n) ≡ true
+    Moves-slot = Walks-slot (node_matches mask) heads store slot at done whole m.walks n is_at
+
+    pub Moves-more : (heads' : Heads) (store' : Store) (next : Option ℕ) (after' : Dropped) (end : ℕ) → next ≡ (links_of (look_at store) slot).next n → DropsAt mask n (nodes_of store) after (nodes_of store') after'
+        → AreLinked heads' (look_at store') → DropsLists n heads (look_at store) heads' (look_at store') → end + sum_by drop_cost after.items ≤ steps + 1 + sum_by drop_cost after'.items
+        → Moves mask old before allowed heads' store' slot next (done + 1) whole after' end
+    Moves-more heads' store' next after' end is drops linked' lists cost =
+        let r = Walks-rest (node_matches mask) heads store slot at done whole m.walks n is_at in
+        let l = lists m.walks.site slot m.walks.atom m.walks.front r.0 (Walks-list (node_matches mask) heads store slot at done whole m.walks n is_at) in
+        let long : length m.walks.rest ≡ length (n ∷ r.0) = ap length r.1 in
+        let c = m.walks.count in
+        let d : Dropping mask old before allowed r.0 (nodes_of store') after' end =
+        Dropping-more mask old before allowed n r.0 (nodes_of store) (nodes_of store') after after' steps end
+        (subst (λ ns. Dropping mask old before allowed ns (nodes_of store) after steps) r.1 m.dropping) drops cost
+        in
+        record {
+          linked = linked';
+          walks = record {
+            site = m.walks.site;
+            atom = m.walks.atom;
+            front = l.0;
+            rest = r.0;
+            is = l.1;
+            first = is ∙ Walks-next (node_matches mask) heads store slot at done whole m.walks n is_at;
+            covers = d.covers;
+            count = omega (arith, long, c);
+          };
+          dropping = d;
+        }

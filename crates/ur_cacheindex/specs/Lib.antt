@@ -1,7 +1,8 @@
 pub mod Calls
+pub mod Linked
 pub mod Lists
 pub mod Matching
+pub mod Moved
 pub mod Nodes
-pub mod Plain
 pub mod Walk
 pub mod Wanted

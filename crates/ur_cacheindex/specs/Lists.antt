@@ -1,25 +1,19 @@
--- The numbers of nodes, listed by site, slot and atom.
-use Rattle.std.specs.Prelude.{◌≡◌, ℕ, ◌+◌, ◌-◌, ◌==◌, Bool, false, ◌&&◌, cond, nat_lt, List, [], length, Option, Some, None, slice_index_or}
-use Rattle.std.specs.List.{list_any}
+-- The lists of an index, by site, slot and atom, and which of them a node is on.
+use Rattle.std.specs.Prelude.{◌≡◌, ◌≢◌, ◌≤◌, ◌<◌, ℕ, ◌+◌, ◌-◌, ◌==◌, Bool, true, false, ◌&&◌, cond, nat_lt, length, Option, Some, None, IsSome, slice_index_or}
 use Rattle.std.specs.declared.cmp.Ordering.{Ordering}
 use Rattle.std.specs.Ordering.{nat_cmp, ordering_then}
 use Rattle.std.specs.BTreeMap.{BTreeMap, is_at, get}
-use Rattle.std.specs.BTreeSet.{BTreeSet}
-use Rattle.std.specs.FinMap.{get as node_at}
 use Rattle.ur_values.specs.declared.atom.Atom.{Atom}
 use Rattle.ur_values.specs.declared.atom.Atom.TheVariants as atom
 use Rattle.ur_values.specs.AtomLaws.{atom_cmp}
+use Rattle.ur_chains.specs.Chains.{same_number}
 use Rattle.ur_cacheindex.specs.declared.node.Node.{Node}
-use Rattle.ur_cacheindex.specs.declared.lists.Lists.{Lists}
-use Rattle.ur_cacheindex.specs.Nodes.{Nodes}
-use Rattle.ur_cacheindex.specs.Calls.{passes}
+use Rattle.ur_cacheindex.specs.declared.heads.Head.{Head}
+use Rattle.ur_cacheindex.specs.declared.heads.Heads.{Heads}
 
 -- the order of pairs of a site and a slot
 abbrev pub place_cmp : ℕ × ℕ → ℕ × ℕ → Ordering
 place_cmp x y = ordering_then (nat_cmp x.0 y.0) (nat_cmp x.1 y.1)
-
-abbrev pub same_number : ℕ → ℕ → Bool
-same_number n = is_at (nat_cmp n)
 
 abbrev pub same_atom : Atom → Atom → Bool
 same_atom a = is_at (atom_cmp a)
@@ -27,48 +21,69 @@ same_atom a = is_at (atom_cmp a)
 abbrev pub same_place : ℕ × ℕ → ℕ × ℕ → Bool
 same_place p = is_at (place_cmp p)
 
--- the number is on the list
-abbrev pub lists_number : List ℕ → ℕ → Bool
-lists_number ns n = list_any (same_number n) ns
+-- ---- heads
 
 abbrev pub Atoms : Type 0
-Atoms = BTreeMap Atom (BTreeSet ℕ)
+Atoms = BTreeMap Atom Head
 
--- the list of these numbers, which is empty where none is kept
-abbrev pub numbers_in : Option (BTreeSet ℕ) → List ℕ
-numbers_in None = []
-numbers_in (Some numbers) = numbers.keys
+abbrev pub head_among : Option Atoms → Atom → Option Head
+head_among None a = None
+head_among (Some atoms) a = get atom_cmp atoms a
 
-abbrev pub numbers_among : Option Atoms → Atom → List ℕ
-numbers_among None a = []
-numbers_among (Some atoms) a = numbers_in (get atom_cmp atoms a)
+-- the head that is kept for a site, a slot and an atom
+abbrev pub kept_at : Heads → ℕ → ℕ → Atom → Option Head
+kept_at heads site slot a = head_among (get place_cmp heads.places (site, slot)) a
 
--- the list of a site with this slot and this atom
-abbrev pub numbers_at : Lists → ℕ → ℕ → Atom → List ℕ
-numbers_at lists site slot a = numbers_among (get place_cmp lists.places (site, slot)) a
+abbrev pub empty_head : Head
+empty_head = record { first = None; len = 0 }
 
--- ---- changes: one number comes (true) or goes (false), and the others stay
+-- a list without a head is empty
+abbrev pub head_of : Option Head → Head
+head_of None = empty_head
+head_of (Some head) = head
 
-abbrev pub Becomes : ℕ → Bool → List ℕ → List ℕ → Type 0
-Becomes n b old new = (m : ℕ) → lists_number new m ≡ cond (same_number n m) b (lists_number old m)
+abbrev pub head_at : Heads → ℕ → ℕ → Atom → Head
+head_at heads site slot a = head_of (kept_at heads site slot a)
 
-abbrev pub Stays : List ℕ → List ℕ → Type 0
-Stays old new = (m : ℕ) → lists_number new m ≡ lists_number old m
+-- this head is kept, and the others stay
+abbrev pub KeepsHead : ℕ → ℕ → Atom → Head → Heads → Heads → Type 0
+KeepsHead site slot at head old new =
+    (s k : ℕ) (a : Atom) → kept_at new s k a ≡ cond (same_place (site, slot) (s, k) && same_atom at a) (Some head) (kept_at old s k a)
 
-abbrev pub ChangesAmong : Atom → ℕ → Bool → Atoms → Atoms → Type 0
-ChangesAmong at n b old new =
-    (a : Atom) (m : ℕ) → lists_number (numbers_among (Some new) a) m ≡ cond (same_atom at a && same_number n m) b (lists_number (numbers_among (Some old) a) m)
+abbrev pub KeepsAmong : Atom → Head → Atoms → Atoms → Type 0
+KeepsAmong at head old new = (a : Atom) → get atom_cmp new a ≡ cond (same_atom at a) (Some head) (get atom_cmp old a)
 
 abbrev pub StaysAmong : Atoms → Atoms → Type 0
-StaysAmong old new = (a : Atom) (m : ℕ) → lists_number (numbers_among (Some new) a) m ≡ lists_number (numbers_among (Some old) a) m
+StaysAmong old new = (a : Atom) → get atom_cmp new a ≡ get atom_cmp old a
 
-abbrev pub Changes : ℕ → ℕ → Atom → ℕ → Bool → Lists → Lists → Type 0
-Changes site slot at n b old new =
-    (s k : ℕ) (a : Atom) (m : ℕ) → lists_number (numbers_at new s k a) m
-    ≡ cond (same_place (site, slot) (s, k) && (same_atom at a && same_number n m)) b (lists_number (numbers_at old s k a) m)
+-- this list has this head, and the others stay
+abbrev pub SetsHead : ℕ → ℕ → Atom → Head → Heads → Heads → Type 0
+SetsHead site slot at head old new =
+    (s k : ℕ) (a : Atom) → head_at new s k a ≡ cond (same_place (site, slot) (s, k) && same_atom at a) head (head_at old s k a)
 
-abbrev pub SameLists : Lists → Lists → Type 0
-SameLists old new = (s k : ℕ) (a : Atom) (m : ℕ) → lists_number (numbers_at new s k a) m ≡ lists_number (numbers_at old s k a) m
+abbrev pub SameKept : Heads → Heads → Type 0
+SameKept old new = (s k : ℕ) (a : Atom) → kept_at new s k a ≡ kept_at old s k a
+
+abbrev pub SameHeads : Heads → Heads → Type 0
+SameHeads old new = (s k : ℕ) (a : Atom) → head_at new s k a ≡ head_at old s k a
+
+abbrev pub SameAmong : Atoms → Atoms → Type 0
+SameAmong old new = (a : Atom) → head_of (get atom_cmp new a) ≡ head_of (get atom_cmp old a)
+
+-- the heads of empty lists that are kept stood before, and not at this list
+abbrev pub TidiesHead : ℕ → ℕ → Atom → Heads → Heads → Type 0
+TidiesHead site slot at old new =
+    (s k : ℕ) (a : Atom) → kept_at new s k a ≡ Some empty_head → (kept_at old s k a ≡ Some empty_head) × ((same_place (site, slot) (s, k) && same_atom at a) ≡ false)
+
+abbrev pub TidiesAmong : Atom → Atoms → Atoms → Type 0
+TidiesAmong at old new = (a : Atom) → get atom_cmp new a ≡ Some empty_head → (get atom_cmp old a ≡ Some empty_head) × (same_atom at a ≡ false)
+
+-- no empty list has its head kept
+abbrev pub AreFilled : Heads → Type 0
+AreFilled heads = (s k : ℕ) (a : Atom) → kept_at heads s k a ≢ Some empty_head
+
+abbrev pub StayFilled : Heads → Heads → Type 0
+StayFilled old new = AreFilled old → AreFilled new
 
 -- ---- which lists a node is on
 
@@ -90,20 +105,10 @@ slots_of node = length node.key + 1
 abbrev pub is_on : ℕ → ℕ → Atom → Node → Bool
 is_on site slot a node = is_on_below (slots_of node) site slot a node
 
--- each list has the numbers of the nodes that are on it
-abbrev pub AreListed : Lists → Nodes → Type 0
-AreListed lists nodes = (s k : ℕ) (a : Atom) (m : ℕ) → lists_number (numbers_at lists s k a) m ≡ passes (is_on s k a) (node_at nodes m)
+-- a head is kept for each of the node's lists by its first slots
+abbrev pub KeptBelow : ℕ → Node → Heads → Type 0
+KeptBelow slots node heads = (k : ℕ) → nat_lt k slots ≡ true → IsSome (kept_at heads node.site k (atom_at node k))
 
--- the number comes to the lists of the node's first slots, or goes from them
-abbrev pub ChangesBelow : ℕ → Node → ℕ → Bool → Lists → Lists → Type 0
-ChangesBelow slots node n b old new =
-    (s k : ℕ) (a : Atom) (m : ℕ) → lists_number (numbers_at new s k a) m
-    ≡ cond (is_on_below slots s k a node && same_number n m) b (lists_number (numbers_at old s k a) m)
-
-abbrev pub ChangesAll : Node → ℕ → Bool → Lists → Lists → Type 0
-ChangesAll node = ChangesBelow (slots_of node) node
-
--- only the node's number may come to its lists
-abbrev pub KeepsOthers : Node → ℕ → Lists → Lists → Type 0
-KeepsOthers node n old new = (s k : ℕ) (a : Atom) (m : ℕ) → (is_on s k a node && same_number n m) ≡ false
-    → lists_number (numbers_at new s k a) m ≡ lists_number (numbers_at old s k a) m
+-- no empty list has its head kept but those of the node by its slots from this one on
+abbrev pub AreFilledBut : ℕ → Node → Heads → Type 0
+AreFilledBut slot node heads = (s k : ℕ) (a : Atom) → kept_at heads s k a ≡ Some empty_head → (node.site ≡ s) × (slot ≤ k) × (k < slots_of node) × (atom_at node k ≡ a)

@@ -1,52 +1,40 @@
--- A walk along a list of numbers.
-use Rattle.std.specs.Prelude.{◌≡◌, ℕ, ◌+◌, ◌<◌, ◌≤◌, Bool, true, List, ◌++◌, length, Some}
-use Rattle.std.specs.Option.{option_copied}
-use Rattle.std.specs.Ordering.{nat_cmp}
-use Rattle.std.specs.List.Sorted.{IsStrictlySortedBy}
+-- A walk along a list.
+use Rattle.std.specs.Prelude.{◌≡◌, ℕ, ◌+◌, ◌<◌, ◌≤◌, Bool, true, List, ◌∷◌, ◌++◌, length, sum_by, Some}
 use Rattle.std.specs.FinMap.{get, len}
+use Rattle.ur_chains.specs.Chains.{lists_number}
 use Rattle.ur_cacheindex.specs.declared.node.Mask.{Mask}
 use Rattle.ur_cacheindex.specs.declared.node.Node.{Node}
 use Rattle.ur_cacheindex.specs.declared.node.NodeId.{NodeId}
-use Rattle.ur_cacheindex.specs.declared.lists.Lists.{Lists}
-use Rattle.ur_cacheindex.specs.declared.lists.Listed.{Listed}
+use Rattle.ur_cacheindex.specs.declared.heads.Heads.{Heads}
+use Rattle.ur_cacheindex.specs.declared.walk.Listed.{Listed}
 use Rattle.ur_cacheindex.specs.declared.wanted.Wanted.{Wanted}
 use Rattle.ur_values.specs.declared.atom.Atom.{Atom}
 use Rattle.ur_cacheindex.specs.Nodes.{Nodes}
 use Rattle.ur_cacheindex.specs.Matching.{node_matches}
-use Rattle.ur_cacheindex.specs.Calls.{passes, TakesOut, shortest, fixed_lens, site_len}
-use Rattle.ur_cacheindex.specs.Plain.{Dropped}
-use Rattle.ur_cacheindex.specs.Lists.{numbers_in, numbers_at, lists_number, is_on, every, AreListed}
+use Rattle.ur_cacheindex.specs.Calls.{passes, TakesOut, shortest, fixed_lens, site_len, drop_cost}
+use Rattle.ur_cacheindex.specs.Moved.{Dropped}
+use Rattle.ur_cacheindex.specs.Lists.{head_at, is_on, every}
+use Rattle.ur_cacheindex.specs.Linked.{Look, IsListAt}
 use Rattle.ur_cacheindex.specs.Wanted.{wanted_site, wanted_count, wanted_fixed, wanted_takes}
 
--- a list of these numbers, in their order
-abbrev pub IsListed : Listed → List ℕ → Type 0
-IsListed listed numbers = (numbers_in (option_copied listed.numbers) ≡ numbers) × (listed.len ≡ length numbers) × IsStrictlySortedBy nat_cmp numbers
-
--- these are the numbers of a list that each node that is looked for is on
-pub record Leads (wanted : Wanted) (lists : Lists) (numbers : List ℕ) : Type 0 where
-  pub slot : ℕ
+-- a list that each node that is looked for is on
+pub record Leads (wanted : Wanted) (heads : Heads) (listed : Listed) : Type 0 where
   pub atom : Atom
-  pub is : numbers ≡ numbers_at lists (wanted_site wanted) slot atom
-  pub on : (node : Node) → wanted_takes wanted node ≡ true → is_on (wanted_site wanted) slot atom node ≡ true
-
--- no more than the numbers of a list that are in order
-abbrev pub IsWithin : ℕ → List ℕ → Type 0
-IsWithin n numbers = (n ≤ length numbers) × IsStrictlySortedBy nat_cmp numbers
+  pub is : listed.head ≡ head_at heads (wanted_site wanted) listed.slot atom
+  pub on : (node : Node) → wanted_takes wanted node ≡ true → is_on (wanted_site wanted) listed.slot atom node ≡ true
 
 -- a list with all that is looked for, which is no longer than the site's or than those at the first fixed positions
-pub record IsShortestBelow (wanted : Wanted) (lists : Lists) (positions : ℕ) (best : Listed) : Type 0 where
-  pub numbers : List ℕ
-  pub is : IsListed best numbers
-  pub leads : Leads wanted lists numbers
-  pub site : IsWithin best.len (numbers_at lists (wanted_site wanted) 0 every)
-  pub fixed : (p : ℕ) (a : Atom) → p < positions → wanted_fixed wanted p ≡ Some a → IsWithin best.len (numbers_at lists (wanted_site wanted) (p + 1) a)
+pub record IsShortestBelow (wanted : Wanted) (heads : Heads) (positions : ℕ) (best : Listed) : Type 0 where
+  pub leads : Leads wanted heads best
+  pub site : best.head.len ≤ (head_at heads (wanted_site wanted) 0 every).len
+  pub fixed : (p : ℕ) (a : Atom) → p < positions → wanted_fixed wanted p ≡ Some a → best.head.len ≤ (head_at heads (wanted_site wanted) (p + 1) a).len
 
-abbrev pub IsShortest : Wanted → Lists → Listed → Type 0
-IsShortest wanted lists = IsShortestBelow wanted lists (wanted_count wanted)
+abbrev pub IsShortest : Wanted → Heads → Listed → Type 0
+IsShortest wanted heads = IsShortestBelow wanted heads (wanted_count wanted)
 
 -- one position more
-abbrev pub IsShorterAt : Wanted → Lists → ℕ → Listed → Listed → Type 0
-IsShorterAt wanted lists position old new = IsShortestBelow wanted lists position old → IsShortestBelow wanted lists (position + 1) new
+abbrev pub IsShorterAt : Wanted → Heads → ℕ → Listed → Listed → Type 0
+IsShorterAt wanted heads position old new = IsShortestBelow wanted heads position old → IsShortestBelow wanted heads (position + 1) new
 
 -- the length of the shortest list that serves
 abbrev pub least_len : Nodes → Mask → ℕ
@@ -56,8 +44,13 @@ least_len nodes mask = shortest (fixed_lens nodes mask) (site_len nodes mask.sit
 abbrev pub Covers : (Node → Bool) → Nodes → List ℕ → Type 0
 Covers test nodes numbers = (n : ℕ) → passes test (get nodes n) ≡ true → lists_number numbers n ≡ true
 
+-- each list stays or loses n
+abbrev pub DropsLists : ℕ → Heads → Look → Heads → Look → Type 0
+DropsLists n heads look heads' look' =
+    (s k : ℕ) (a : Atom) (front rest : List ℕ) → IsListAt heads look s k a (front ++ n ∷ rest) → (kept : List ℕ) × IsListAt heads' look' s k a (kept ++ rest)
+
 -- the nodes that the mask matches are moved out, but for some of those with the numbers that are left, at a step for
--- each of them besides those that are allowed
+-- each of them besides those that are allowed and those for each node that was moved out
 pub record Dropping (mask : Mask) (old : Nodes) (before : Dropped) (allowed : ℕ) (left : List ℕ) (new : Nodes) (after : Dropped) (steps : ℕ) : Type 0 where
   pub dropped : List (NodeId × Node)
   pub items : after.items ≡ before.items ++ dropped
@@ -65,8 +58,4 @@ pub record Dropping (mask : Mask) (old : Nodes) (before : Dropped) (allowed : �
   pub fits : len new ≤ after.spare
   pub sum : after.spare + length after.items ≡ before.spare + length before.items
   pub covers : Covers (node_matches mask) new left
-  pub count : steps + length left ≤ allowed + length dropped
-
--- where the lists are those of nodes from which these are then taken out, they become those of the nodes that are left
-abbrev pub Unlists : List (NodeId × Node) → Lists → Lists → Type 0
-Unlists dropped old new = (test : Node → Bool) (before after : Nodes) → TakesOut test before dropped after → AreListed old before → AreListed new after
+  pub count : steps + length left ≤ allowed + sum_by drop_cost dropped

@@ -5,9 +5,11 @@ ghost use Rattle.ur_values.specs.Atom.{atom_values};
 ghost use Rattle.ur_cacheindex.specs.Matching.{node_matches};
 ghost use Rattle.ur_cacheindex.specs.Calls.{Inserts, Finds, node_is_at, DropsIn};
 
-use crate::lists::Lists;
+use crate::heads::Heads;
+use crate::linked::Linked;
+use crate::lists::{insert_in, unlink_in};
 use crate::node::{Mask, Node, NodeId};
-use crate::walk::{drop_in, find_in, insert_in, unlink_in};
+use crate::walk::{drop_in, find_in};
 use crate::wanted::Wanted;
 use std::alloc::Global;
 use std::marker::Model;
@@ -19,13 +21,14 @@ use ur_values::Atom;
 /// takes memory.
 #[derive(Drop)]
 pub struct Index {
-    nodes: Counted<Node>,
-    lists: Lists,
+    nodes: Counted<Linked>,
+    heads: Heads,
 }
 
 impl Model for Index {
     ghost use Rattle.ur_cacheindex.specs.Nodes.{Nodes};
-    ghost use Rattle.ur_cacheindex.specs.Lists.{AreListed};
+    ghost use Rattle.ur_cacheindex.specs.Lists.{AreFilled};
+    ghost use Rattle.ur_cacheindex.specs.Linked.{nodes_of, look_at, AreLinked};
     ghost use Rattle.ur_cacheindex.specs.contracts.node.Node as node;
     ghost use Rattle.std.specs.Coded.{coded_ℕ};
     ghost use Rattle.std.specs.FinMap.{code};
@@ -34,9 +37,9 @@ impl Model for Index {
 
     ghost coded = { code coded_ℕ node.the_row.coded };
 
-    ghost view = { λ index. index.nodes };
+    ghost view = { λ index. nodes_of index.nodes };
 
-    ghost invariant = { λ index. AreListed index.lists index.nodes };
+    ghost invariant = { λ index. AreLinked index.heads (look_at index.nodes) × AreFilled index.heads };
 }
 
 impl Index {
@@ -46,7 +49,7 @@ impl Index {
     {
         Index {
             nodes: Counted::new(alloc),
-            lists: Lists::new(alloc),
+            heads: Heads::new(alloc),
         }
     }
 
@@ -68,7 +71,7 @@ impl Index {
     pub fn insert(&mut self, node: Node) -> Result<NodeId, Node>
         ensures { Inserts node self.old self.new result }
     {
-        insert_in(&mut self.nodes, &mut self.lists, node)
+        insert_in(&mut self.nodes, &mut self.heads, node)
     }
 
     /// Takes a node out.
@@ -77,21 +80,22 @@ impl Index {
         ensures node { get self.old id.number ≡ Some result }
         ensures left { self.new ≡ remove self.old id.number }
     {
-        unlink_in(&mut self.nodes, &mut self.lists, id.number)
+        let mut steps = Steps::new();
+        unlink_in(&mut self.nodes, &mut self.heads, id.number, &mut steps)
     }
 
     /// A node that the mask matches.
     pub fn find(&self, mask: &Mask) -> Option<NodeId>
         ensures { Finds (node_matches mask.now) self.now result }
     {
-        find_in(&self.nodes, &self.lists, &Wanted::Mask(mask))
+        find_in(&self.nodes, &self.heads, &Wanted::Mask(mask))
     }
 
     /// A node with this site and key.
     pub fn find_key(&self, site: u32, key: &[Atom]) -> Option<NodeId>
         ensures { Finds (node_is_at site (atom_values key.now)) self.now result }
     {
-        find_in(&self.nodes, &self.lists, &Wanted::Key(site, key))
+        find_in(&self.nodes, &self.heads, &Wanted::Key(site, key))
     }
 
     /// Moves out exactly the nodes that the mask matches, at a step for each look at a node.
@@ -105,6 +109,6 @@ impl Index {
         ensures nodes { DropsIn mask.now self.old self.new dropped.old.items dropped.new.items steps.old steps.new }
         ensures room { dropped.new.spare + length dropped.new.items ≡ dropped.old.spare + length dropped.old.items }
     {
-        drop_in(&mut self.nodes, &mut self.lists, mask, dropped, steps);
+        drop_in(&mut self.nodes, &mut self.heads, mask, dropped, steps);
     }
 }

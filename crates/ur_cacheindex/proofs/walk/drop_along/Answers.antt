@@ -1,15 +1,18 @@
-use Rattle.std.proofs.Common.{◌+◌, length, subst}
-use Rattle.std.specs.BTreeSet.{keys}
-use Rattle.std.specs.Map.Iter.{deref}
-use Rattle.std.proofs.lemmas.Map.Iter.{rest_more}
-use Rattle.ur_cacheindex.specs.Walk.{Dropping}
-use Rattle.ur_cacheindex.proofs.Walking.{Dropping-more}
+use Rattle.std.proofs.Common.{◌+◌}
+use Rattle.ur_cacheindex.specs.Linked.{nodes_of}
+use Rattle.ur_cacheindex.proofs.Walking.{Moves-start, Moves-more}
 use Rattle.ur_cacheindex.proofs.walk.drop_along.Goals as goal
 
-pub loop-number-preserved : goal.loop-number-preserved
-loop-number-preserved c =
-    let rest = rest_more deref c.loop-number.number-iterator c.next.new.self c.next.result c.in-Some.number c.in-Some.is c.next.ensures.steps in
-    let allowed = c.args.steps.now + length (keys c.args.numbers.now) in
-    Dropping-more c.args.mask.now c.args.nodes.now c.args.dropped.now allowed c.in-Some.number.now c.next.new.self c.loop-number.nodes c.drop_at.new.nodes c.loop-number.dropped c.drop_at.new.dropped c.loop-number.steps c.drop_at.new.steps
-    (subst (λ ns. Dropping c.args.mask.now c.args.nodes.now c.args.dropped.now allowed ns c.loop-number.nodes c.loop-number.dropped c.loop-number.steps) rest c.loop-number.invariant)
-    c.drop_at.ensures.drops c.drop_at.ensures.steps
+pub loop-turn-init : goal.loop-turn-init
+loop-turn-init c = (Moves-start c.args.mask c.args.heads.now c.args.nodes.now c.args.listed c.args.dropped.now c.args.steps.now c.requires.linked c.requires.leads c.requires.room, λ filled. filled)
+
+pub loop-turn-preserved : goal.loop-turn-preserved
+loop-turn-preserved c = (
+  Moves-more c.args.mask.now (nodes_of c.args.nodes.now) c.args.dropped.now (c.args.steps.now + c.args.listed.head.len) c.loop-turn.heads c.loop-turn.nodes c.args.listed.slot c.loop-turn.at c.loop-turn._turn
+      c.args.listed.head.len c.loop-turn.dropped c.loop-turn.steps c.loop-turn.invariant.0 c.in-Some.number c.in-Some.is c.drop_at-at.new.heads c.drop_at-at.new.nodes c.drop_at-at.result c.drop_at-at.new.dropped
+      c.drop_at-at.new.steps c.drop_at-at.ensures.next c.drop_at-at.ensures.drops c.drop_at-at.ensures.linked c.drop_at-at.ensures.lists c.drop_at-at.ensures.steps,
+  λ filled. c.drop_at-at.ensures.filled (c.loop-turn.invariant.1 filled),
+)
+
+pub returns-clause-filled : goal.returns-clause-filled
+returns-clause-filled c = c.loop-turn.invariant.1
