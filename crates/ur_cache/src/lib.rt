@@ -3,11 +3,7 @@
 
 mod cache;
 mod held;
-#[cfg(test)]
-mod side_by_side;
 mod size;
-#[cfg(test)]
-mod tests;
 
 pub use cache::{Cache, Settle};
 pub use size::fits;

@@ -1,6 +1,6 @@
-use crate::{Cache, Settle, fits};
 use std::alloc::Global;
 use ur_base::{List, Memory};
+use ur_cache::{Cache, Settle, fits};
 use ur_cacheindex::Mask;
 use ur_values::{Atom, Value};
 
@@ -98,26 +98,5 @@ fn a_commit_drops_and_a_rollback_keeps(rt: HostRuntime) -> Result<(), Memory> {
     let alloc = rt.alloc();
     assert!(rt; masked(alloc, Settle::Commit)? == (false, true));
     assert!(rt; masked(alloc, Settle::Rollback)? == (true, true));
-    Ok(())
-}
-
-/// Whether the key (1, 1) and a text of this many bytes are small enough.
-fn is_kept(alloc: Global, bytes: usize) -> Result<bool, Memory> {
-    let mut text = List::new(alloc);
-    for _ in 0..bytes {
-        text.push(b'x')?;
-    }
-    let mut rows = List::new(alloc);
-    rows.push(Value::Str(text))?;
-    let key = key_of(alloc, 1, 1)?;
-    let mut cache = Cache::new(alloc, 8)?;
-    keep(&mut cache, 1, key, rows)
-}
-
-#[test]
-fn the_greatest_answer_is_kept(rt: HostRuntime) -> Result<(), Memory> {
-    let alloc = rt.alloc();
-    assert!(rt; is_kept(alloc, 65536 - 96)?);
-    assert!(rt; !is_kept(alloc, 65536 - 95)?);
     Ok(())
 }
