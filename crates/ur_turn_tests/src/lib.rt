@@ -1,6 +1,8 @@
-//! Requests of small programs, run turn by turn over a keeper in memory.
+//! Requests of small programs, run turn by turn over a keeper in memory and a cache.
 #![tactic(auto)]
 
+#[cfg(test)]
+mod caching;
 #[cfg(test)]
 mod programs;
 #[cfg(test)]

@@ -5,7 +5,7 @@ ghost use Rattle.ur_machine.specs.Sample.{route, small};
 use std::alloc::Global;
 use ur_base::{Boxed, List, Memory, Name, Text};
 use ur_code::{Code, Cookie};
-use ur_sql::{Action, Change, Field, Item, Query, Scalar};
+use ur_sql::{Action, Change, Comparison, Field, Item, Query, Scalar};
 use ur_tags::{Handlers, Route};
 use ur_terms::{AnswerForm, Branch, Function, Op, Pattern, Term};
 use ur_types::ValueType;
@@ -25,6 +25,10 @@ pub enum Deed {
     DividesByZero,
     /// Sets a cookie, and shows whether it is there.
     SetsCookie,
+    /// Shows the rows of a query whose FROM has the table twice.
+    ShowsPairs,
+    /// The second request adds 7 and shows the rows at the second key, and each other one those at the first key.
+    AddsSecond(i64, i64),
 }
 
 /// The program whose page does this.
@@ -75,12 +79,16 @@ fn keeps(alloc: Global, code: &mut Code) -> Result<(), Memory>
     Ok(())
 }
 
-/// One query and one change.
+/// Three queries and one change.
 fn asks(alloc: Global, code: &mut Code) -> Result<(), Memory>
     ensures { code.new.handlers ≡ code.old.handlers }
 {
-    let query = query(alloc)?;
-    code.queries.push(query)?;
+    let all = all(alloc)?;
+    code.queries.push(all)?;
+    let at_key = at_key(alloc)?;
+    code.queries.push(at_key)?;
+    let pairs = pairs(alloc)?;
+    code.queries.push(pairs)?;
     let change = change(alloc)?;
     code.changes.push(change)?;
     Ok(())
@@ -134,28 +142,59 @@ fn keys(alloc: Global) -> Result<List<List<u32>>, Memory> {
 }
 
 /// SELECT T.Id AS A FROM T.
-fn query(alloc: Global) -> Result<Query, Memory> {
-    let from = from(alloc)?;
+fn all(alloc: Global) -> Result<Query, Memory> {
+    let mut from = List::new(alloc);
+    from.push(item(alloc)?)?;
+    query(alloc, List::new(alloc), from, None)
+}
+
+/// SELECT T.Id AS A FROM T WHERE T.Id = (an int that is passed).
+fn at_key(alloc: Global) -> Result<Query, Memory> {
+    let params = List::from_slice(alloc, &[ColumnKind::Int])?;
+    let mut from = List::new(alloc);
+    from.push(item(alloc)?)?;
+    let is_key = is_key(alloc)?;
+    query(alloc, params, from, Some(is_key))
+}
+
+fn is_key(alloc: Global) -> Result<Scalar, Memory> {
+    let column = Boxed::new(alloc, Scalar::Column(0, 0))?;
+    let key = Boxed::new(alloc, Scalar::Param(0))?;
+    Ok(Scalar::Compare(Comparison::Equal, column, key))
+}
+
+/// SELECT T.Id AS A FROM T, T AS U.
+fn pairs(alloc: Global) -> Result<Query, Memory> {
+    let mut from = List::new(alloc);
+    from.push(item(alloc)?)?;
+    from.push(item(alloc)?)?;
+    query(alloc, List::new(alloc), from, None)
+}
+
+fn item(alloc: Global) -> Result<Item, Memory> {
+    let columns = List::from_slice(alloc, &[ColumnKind::Int])?;
+    Ok(Item { table: 0, columns })
+}
+
+fn query(
+    alloc: Global,
+    params: List<ColumnKind>,
+    from: List<Item>,
+    filter: Option<Scalar>,
+) -> Result<Query, Memory> {
     let mut fields = List::new(alloc);
     fields.push(Field::Single(Name(0), Scalar::Column(0, 0)))?;
     Ok(Query {
-        params: List::new(alloc),
+        params,
         fields,
         from,
         on: List::new(alloc),
-        filter: None,
+        filter,
         group: List::new(alloc),
         order: List::new(alloc),
         limit: None,
         offset: None,
     })
-}
-
-fn from(alloc: Global) -> Result<List<Item>, Memory> {
-    let columns = List::from_slice(alloc, &[ColumnKind::Int])?;
-    let mut from = List::new(alloc);
-    from.push(Item { table: 0, columns })?;
-    Ok(from)
 }
 
 /// INSERT INTO T (Id) VALUES (an int that is passed).
@@ -245,6 +284,8 @@ fn body(alloc: Global, deed: Deed) -> Result<Term, Memory> {
         Deed::Draws => draws(alloc),
         Deed::DividesByZero => divides(alloc),
         Deed::SetsCookie => sets_cookie(alloc),
+        Deed::ShowsPairs => shows_pairs(alloc),
+        Deed::AddsSecond(others, second) => adds_second(alloc, others, second),
     }
 }
 
@@ -320,6 +361,59 @@ fn carried(alloc: Global) -> Result<Term, Memory> {
         body: showing(alloc, Term::Variable(0))?,
     })?;
     Ok(Term::Case(Boxed::new(alloc, Term::Variable(1))?, branches))
+}
+
+fn shows_pairs(alloc: Global) -> Result<Term, Memory> {
+    let rows = Term::Make(Op::Ask(AnswerForm::All, 2), List::new(alloc));
+    shows_rows(alloc, rows)
+}
+
+/// Draws the request's number, which tells what it does.
+fn adds_second(alloc: Global, others: i64, second: i64) -> Result<Term, Memory> {
+    let drawn = only(alloc, Term::Make(Op::Next(0), List::new(alloc)))?;
+    let is_second = is_second(alloc)?;
+    let adds = adds_and_shows(alloc, second)?;
+    let shows = shows_at(alloc, others)?;
+    let page = either(alloc, is_second, adds, shows)?;
+    first(alloc, drawn, page)
+}
+
+fn is_second(alloc: Global) -> Result<Term, Memory> {
+    let sides = both(alloc, Term::Variable(0), Term::Int(2))?;
+    Ok(Term::Make(Op::Equal, sides))
+}
+
+fn either(alloc: Global, test: Term, yes: Term, no: Term) -> Result<Term, Memory> {
+    let test = Boxed::new(alloc, test)?;
+    let yes = Boxed::new(alloc, yes)?;
+    let no = Boxed::new(alloc, no)?;
+    Ok(Term::If(test, yes, no))
+}
+
+fn adds_and_shows(alloc: Global, key: i64) -> Result<Term, Memory> {
+    let added = only(alloc, add(alloc)?)?;
+    let shown = shows_at(alloc, key)?;
+    first(alloc, added, shown)
+}
+
+/// A page that shows the rows at this key.
+fn shows_at(alloc: Global, key: i64) -> Result<Term, Memory> {
+    let args = only(alloc, Term::Int(key))?;
+    shows_rows(alloc, Term::Make(Op::Ask(AnswerForm::All, 1), args))
+}
+
+fn shows_rows(alloc: Global, rows: Term) -> Result<Term, Memory> {
+    let rows = Boxed::new(alloc, rows)?;
+    let shown = row_text(alloc)?;
+    let each = Term::Each(rows, Boxed::new(alloc, shown)?);
+    Ok(Term::Make(Op::Element(Tag::Body), only(alloc, each)?))
+}
+
+/// The field of the row that is the nearest variable.
+fn row_text(alloc: Global) -> Result<Term, Memory> {
+    let row = only(alloc, Term::Variable(0))?;
+    let field = Term::Make(Op::Project(Name(0)), row);
+    Ok(Term::Make(Op::Shown, only(alloc, field)?))
 }
 
 /// The values, and then the page.

@@ -1,15 +1,29 @@
 //! Requests with their pages.
 use crate::programs::{Deed, program};
-use crate::running::ends;
+use crate::running::{Sizes, ends};
 use std::alloc::Global;
 use ur_base::{List, Memory};
 use ur_turns::Turn;
 
 const EMPTY: &[u8] = b"<!DOCTYPE html>\n<html><body></body></html>";
 
+/// How one request ends, without a cache.
+fn end_of(alloc: Global, deed: Deed, steps: u32) -> Result<Turn, Memory> {
+    let sizes = Sizes {
+        steps,
+        capacity: 0,
+        requests: 1,
+    };
+    let mut ends = ends(alloc, program(alloc, deed)?, sizes, List::new(alloc))?;
+    match ends.pop() {
+        Some((end, _reads)) => Ok(end),
+        None => Err(Memory),
+    }
+}
+
 /// Whether a request that does this ends with these bytes, as a page or not.
 fn shows(alloc: Global, deed: Deed, steps: u32, page: bool, bytes: &[u8]) -> Result<bool, Memory> {
-    match ends(alloc, program(alloc, deed)?, steps, List::new(alloc))? {
+    match end_of(alloc, deed, steps)? {
         Turn::Page(shown, _) => Ok(page && shown.as_slice() == bytes),
         Turn::Failed(shown) => Ok(!page && shown.as_slice() == bytes),
         _ => Ok(false),
@@ -61,12 +75,7 @@ fn the_first_draw_is_one(rt: HostRuntime) -> Result<(), Memory> {
 
 /// How many cookies a request sets that ends with a page.
 fn cookies_set(alloc: Global) -> Result<usize, Memory> {
-    match ends(
-        alloc,
-        program(alloc, Deed::SetsCookie)?,
-        9,
-        List::new(alloc),
-    )? {
+    match end_of(alloc, Deed::SetsCookie, 9)? {
         Turn::Page(_page, set) => Ok(set.len()),
         _ => Ok(0),
     }
@@ -76,24 +85,5 @@ fn cookies_set(alloc: Global) -> Result<usize, Memory> {
 fn a_cookie_that_is_set_is_not_seen(rt: HostRuntime) -> Result<(), Memory> {
     assert!(rt; shows(rt.alloc(), Deed::SetsCookie, 9, true, EMPTY)?);
     assert!(rt; cookies_set(rt.alloc())? == 1);
-    Ok(())
-}
-
-/// Whether the request ends by a fault of the keeper where this call of the store fails, counted from 1.
-fn is_fault(alloc: Global, call: u64) -> Result<bool, Memory> {
-    let fail = List::from_slice(alloc, &[call])?;
-    match ends(alloc, program(alloc, Deed::AddsOne)?, 9, fail)? {
-        Turn::Keeper => Ok(true),
-        _ => Ok(false),
-    }
-}
-
-/// The first call attaches the schema; then the change scans and inserts, and the query scans.
-#[test]
-fn each_failing_call_is_a_fault(rt: HostRuntime) -> Result<(), Memory> {
-    assert!(rt; is_fault(rt.alloc(), 2)?);
-    assert!(rt; is_fault(rt.alloc(), 3)?);
-    assert!(rt; is_fault(rt.alloc(), 4)?);
-    assert!(rt; !is_fault(rt.alloc(), 5)?);
     Ok(())
 }
