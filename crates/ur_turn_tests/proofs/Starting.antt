@@ -1,11 +1,18 @@
 -- A store that may be changed by all steps of a request, and a request of a page without arguments.
-use Rattle.std.proofs.Common.{◌≡◌, ℕ, ◌-◌, ◌≤◌, ℤ, pos, ◌≤ℤ◌, Bool, true, All, Option, Some, None, sym, subst, arith}
+use Rattle.std.proofs.Common.{◌≡◌, ℕ, ◌-◌, ◌≤◌, ℤ, pos, ◌≤ℤ◌, Bool, true, List, [], All, Option, Some, None, sym, subst, arith}
 use Rattle.std.proofs.lemmas.Int.{ints}
-use Rattle.std.proofs.lemmas.List.Elements.{All-weaker}
+use Rattle.std.proofs.lemmas.List.Elements.{All-weaker, All-from_recursion}
 use Rattle.ur_base.specs.Told.{WhereTold}
 use Rattle.ur_values.specs.declared.schema.Schema.{Schema}
 use Rattle.ur_values.specs.declared.value.Call.{Call}
-use Rattle.ur_keeper.specs.Tables.{Tables, AreSound, NumbersUpTo}
+use Rattle.ur_keeper.specs.Keeper.{OfSchema}
+use Rattle.ur_keeper.specs.Tables.{Tables, Kept, Keeps, AreSound, MayCommit, NumbersUpTo, store_of}
+use Rattle.ur_cache.specs.declared.cache.Settle.TheVariants.{Commit, Rollback}
+use Rattle.ur_cache.specs.Entries.{Cached, settled}
+use Rattle.ur_code.specs.declared.code.Code.{Code}
+use Rattle.ur_answers.specs.Answers.{AreEntriesOf, AreAnswersOver, AreSavedAnswers, AreCurrentAnswers}
+use Rattle.ur_answers.specs.Laws.{IsKeptAtBegin, IsKeptAtCommit}
+use Rattle.ur_turn_tests.specs.Ends.{IfPage}
 use Rattle.ur_tags.specs.declared.routes.Handlers.{Handlers}
 use Rattle.ur_code.specs.RouteTypes.{IsRequestOf}
 use Rattle.ur_machine.specs.Sample.{small, call}
@@ -13,7 +20,7 @@ use Rattle.ur_machine.proofs.Examples.{is_request}
 use Rattle.ur_turns.specs.declared.turn.Turn.{Turn}
 use Rattle.ur_turns.specs.declared.turn.Turn.TheVariants as turn
 use Rattle.ur_turns.specs.Ready.{AreReady}
-use Rattle.ur_turns.specs.Turning.{IfMore, IsKeeperUndone}
+use Rattle.ur_turns.specs.Turning.{IfMore, IsKeeperUndone, StaysAtEnd}
 
 below : (n a k : ℕ) → a ≤ k → n ≤ a → n ≤ k
 below n a k h l = omega (arith, h, l)
@@ -48,3 +55,42 @@ if_more t P e h = subst (λ z. IfMore z P) e h
 
 pub goes_on : (t : Turn) (saved current : Option Tables) (b : Bool) → t ≡ turn.More → IsKeeperUndone t saved current b → b ≡ true
 goes_on t saved current b e h = subst (λ z. IsKeeperUndone z saved current b) e h
+
+-- ---- ends
+
+-- the tables of a page may be saved
+pub page_commits : (schema : Schema) (t : Turn) (kept : Kept) (before after : Option Tables) (units : ℕ) → kept ≡ Keeps schema → WhereTold before (AreReady schema units) → StaysAtEnd t before after
+    → IfPage t (OfSchema kept after MayCommit)
+page_commits schema turn.More kept before after units e r s = tt
+page_commits schema (turn.Page bytes cookies) kept before after units e r s =
+    subst (λ k. OfSchema k after MayCommit) (sym e) (subst (λ o. OfSchema (Keeps schema) o MayCommit) (sym s) (go before r))
+  where
+    go : (o : Option Tables) → WhereTold o (AreReady schema units) → OfSchema (Keeps schema) o MayCommit
+    go None h = tt
+    go (Some x) h = h.commits
+page_commits schema (turn.Failed bytes) kept before after units e r s = tt
+page_commits schema turn.Keeper kept before after units e r s = tt
+page_commits schema turn.Memory kept before after units e r s = tt
+
+-- ---- answers
+
+pub began : (code : Code) (saved saved' current : Option Tables) (c : Cached) → IsKeptAtBegin code → saved' ≡ saved → current ≡ saved → AreSavedAnswers code saved c → AreCurrentAnswers code saved' current c
+began code saved saved' current c law e f h = subst (λ o. AreCurrentAnswers code o current c) (sym e) (subst (λ o. AreCurrentAnswers code saved o c) (sym f) (law saved c h))
+
+pub saved_as : (code : Code) (saved current saved' : Option Tables) (c c' : Cached) → IsKeptAtCommit code → saved' ≡ current → c' ≡ settled c Commit
+    → AreSavedAnswers code saved c → AreCurrentAnswers code saved current c → AreSavedAnswers code saved' c'
+saved_as code saved current saved' c c' law e f h k = subst (λ o. AreSavedAnswers code o c') (sym e) (subst (AreSavedAnswers code current) (sym f) (law saved current c (h, k)))
+
+pub given_up_as : (code : Code) (saved saved' : Option Tables) (c c' : Cached) → saved' ≡ saved → c' ≡ settled c Rollback → AreSavedAnswers code saved c → AreSavedAnswers code saved' c'
+given_up_as code saved saved' c c' e f h = subst (λ o. AreSavedAnswers code o c') (sym e) (subst (AreSavedAnswers code saved) (sym f) (record { entries = h.entries; over_saved = h.over_saved }))
+
+-- an empty cache
+pub no_entries : (code : Code) (saved : Option Tables) (c : Cached) → c.entries ≡ [] → AreSavedAnswers code saved c
+no_entries code saved c e = record {
+  entries = subst (AreEntriesOf code) (sym e) (All-from_recursion _ [] tt);
+  over_saved = over saved;
+}
+  where
+    over : (o : Option Tables) → WhereTold o (λ s. AreAnswersOver code (store_of s) c.entries)
+    over None = tt
+    over (Some s) = subst (AreAnswersOver code (store_of s)) (sym e) (All-from_recursion _ [] tt)
