@@ -11,3 +11,5 @@ pub mod Once
 pub mod Examples
 pub mod Fronts
 pub mod Whole
+pub mod Lossy
+pub mod Texts

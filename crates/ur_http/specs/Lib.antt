@@ -4,3 +4,4 @@ pub mod Items
 pub mod Answers
 pub mod Reading
 pub mod Buffers
+pub mod Texts

@@ -15,6 +15,7 @@ use crate::fields::{Field, Only, value_of};
 use crate::forms::form;
 use crate::request::{HttpRequest, Method};
 use crate::target::target_path;
+use http::method::MethodError;
 use std::alloc::Global;
 use ur_base::{List, Memory, Text};
 
@@ -133,7 +134,7 @@ pub(crate) fn request(
 ) -> Result<HttpRequest, Memory>
     ensures { IfOk result (λ r. r ≡ request_in method.now path.now minor (map field_pair fields.now) body.now) }
 {
-    let method = method_of(method);
+    let method = method_of(alloc, method)?;
     Ok(HttpRequest {
         method,
         path: List::from_slice(alloc, path)?,
@@ -143,16 +144,30 @@ pub(crate) fn request(
     })
 }
 
-fn method_of(bytes: &[u8]) -> Method
-    ensures { result ≡ requests.method_of bytes.now }
+/// The method that the bytes of a head are, held as a method of HTTP.
+fn method_of(alloc: Global, bytes: &[u8]) -> Result<Method, Memory>
+    ensures { IfOk result (λ method. method ≡ requests.method_of bytes.now) }
 {
-    if bytes == b"GET".as_slice() {
+    match http::Method::from_bytes(alloc, bytes) {
+        Ok(method) => Ok(told_apart(&method)),
+        Err(error) => match error {
+            MethodError::Invalid => Ok(Method::Other),
+            MethodError::OutOfMemory => Err(Memory),
+        },
+    }
+}
+
+fn told_apart(method: &http::Method) -> Method
+    ensures { result ≡ requests.method_of method.now }
+{
+    let name = method.as_str();
+    if name == "GET" {
         return Method::Get;
     }
-    if bytes == b"HEAD".as_slice() {
+    if name == "HEAD" {
         return Method::Head;
     }
-    if bytes == b"POST".as_slice() {
+    if name == "POST" {
         return Method::Post;
     }
     Method::Other

@@ -1,9 +1,10 @@
 //! Bytes that come in pieces.
-ghost use Rattle.std.specs.Prelude.{◌≡◌, ◌+◌, ◌-◌, ◌<◌, ◌≤◌, ◌++◌, length, take, drop, min, vec_capacity, None, IfOk, OnErr, true, false, ◌==◌, ◌*◌};
+ghost use Rattle.std.specs.Prelude.{◌≡◌, ◌+◌, ◌-◌, ◌<◌, ◌≤◌, ◌++◌, length, take, drop, min, vec_capacity, None, IfOk, OnErr, IsTrue, true, false, ◌==◌, ◌*◌, ◌↔◌, []};
 ghost use Rattle.ur_http.specs.Reading.{IsBegun};
 ghost use Rattle.ur_http.specs.Requests.{greatest_head};
 ghost use Rattle.ur_http.specs.Buffers.{IsKnown};
 ghost use Rattle.ur_http.specs.Items.{Gives, Begins, more, empty, greatest_request};
+ghost use Rattle.ur_http.specs.Texts.{IsTextItem};
 
 use crate::request::Item;
 use crate::sought::{Known, known_of, known_still};
@@ -87,10 +88,27 @@ impl Splitter {
         count
     }
 
+    /// Whether no byte is left that stands in no request given out.
+    pub fn is_empty(&self) -> bool
+        ensures { IsTrue result ↔ (self.now.left ≡ []) }
+    {
+        self.from == self.bytes.len()
+    }
+
+    /// How many bytes `feed` takes.
+    pub fn room(&self) -> usize
+        ensures count { result ≡ greatest_request - length self.now.left }
+        ensures some { Begins self.now.left more → 0 < result }
+    {
+        GREATEST_REQUEST - (self.bytes.len() - self.from)
+    }
+
     /// The next whole request; that more bytes are needed; or the status with which the bytes are refused, which all
     /// later calls give again. Without memory nothing changes.
+    #[tactic(auto, using(crate::proofs::Texts::begun_text))]
     pub fn next(&mut self) -> Result<Item, Memory>
         ensures item { IfOk result (λ item. Gives self.old item self.new) }
+        ensures text { IfOk result IsTextItem }
         ensures err { OnErr result (self.new ≡ self.old) }
     {
         if let Some(status) = self.refused {
