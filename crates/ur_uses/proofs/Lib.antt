@@ -1,0 +1,6 @@
+mod Chains
+mod ConShapes
+mod ExpShapes
+mod Pieces
+mod Projects
+mod TextShapes

@@ -1,0 +1,4 @@
+pub mod Cons
+pub mod Decls
+pub mod Exps
+pub mod Skeletons
