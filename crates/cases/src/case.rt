@@ -98,7 +98,7 @@ impl Cases {
         if line.is_empty() || line.starts_with('#') {
             return Ok(true);
         }
-        if line.starts_with(|first: char| first.is_ascii_lowercase()) {
+        if matches!(line.as_bytes().first(), Some(b'a'..=b'z')) {
             return self.begin(alloc, number, line);
         }
         if !self.is_open {

@@ -36,10 +36,11 @@ pub fn read<'a>(
     text: &'a str,
     p: &mut Printer,
 ) -> Result<&'a str, Stop> {
-    if text.len() > LONGEST {
+    let bytes = text.as_bytes();
+    if bytes.len() > LONGEST {
         return Err(Stop::Memory);
     }
-    let tokens = lex(alloc, 1, text.as_bytes())?;
+    let tokens = lex(alloc, 1, bytes)?;
     let end = read_tokens(alloc, subject, text, &tokens, p)?;
     Ok(from_token(text, &tokens, end))
 }
@@ -62,65 +63,83 @@ fn read_tokens(
     p: &mut Printer,
 ) -> Result<usize, Stop> {
     match subject {
-        Subject::Kind => {
-            let parsed = read_kind(alloc, tokens, 0, MAX_PARENTHESES)?;
-            kind(p, &parsed.tree);
-            Ok(parsed.end)
-        }
+        Subject::Kind => kind_in(alloc, tokens, p),
         Subject::Con => con_in(alloc, tokens, ConPlace::Plain, p),
         Subject::ConBeside => con_in(alloc, tokens, ConPlace::Beside, p),
         Subject::ConBeforeKeys => con_in(alloc, tokens, ConPlace::BeforeKeys, p),
-        Subject::ConParam => {
-            let parsed = read_con_param(alloc, tokens, 0, MAX_NESTING, MAX_PARENTHESES)?;
-            con_param(p, &parsed.tree);
-            Ok(parsed.end)
-        }
-        Subject::Param => {
-            let parsed = read_param(alloc, tokens, 0, MAX_NESTING, MAX_PARENTHESES)?;
-            param(p, &parsed.tree);
-            Ok(parsed.end)
-        }
-        Subject::Binder => {
-            let (bound, end) = read_binder(alloc, tokens, 0)?;
-            binder(p, &bound);
-            Ok(end)
-        }
-        Subject::Pat => {
-            let parsed = read_pat(alloc, tokens, 0)?;
-            pat(p, &parsed.tree);
-            Ok(parsed.end)
-        }
-        Subject::Removed => {
-            let (removed, end) = read_removed(alloc, tokens, 0)?;
-            field(p, &removed.name);
-            Ok(end)
-        }
+        Subject::ConParam => con_param_in(alloc, tokens, p),
+        Subject::Param => param_in(alloc, tokens, p),
+        Subject::Binder => binder_in(alloc, tokens, p),
+        Subject::Pat => pat_in(alloc, tokens, p),
+        Subject::Removed => removed_in(alloc, tokens, p),
         Subject::Exp => exp_in(alloc, tokens, p),
         Subject::Sql => sexp_in(alloc, text, tokens, false, p),
         Subject::SqlBare => sexp_in(alloc, text, tokens, true, p),
-        Subject::Query => {
-            let Skeleton { tree, quotes, end } = sql_query(alloc, tokens, 0)?;
-            query(p, &tree);
-            codes(text, tokens, quotes.exps.as_slice(), p);
-            Ok(end)
-        }
-        Subject::Change => {
-            let Skeleton { tree, quotes, end } = sql_change(alloc, tokens, 0)?;
-            change(p, &tree);
-            codes(text, tokens, quotes.exps.as_slice(), p);
-            Ok(end)
-        }
-        Subject::Xml => {
-            let Skeleton { tree, quotes, end } = xml(alloc, tokens, 0)?;
-            parts(p, tree.parts.as_slice());
-            codes(text, tokens, quotes.exps.as_slice(), p);
-            codes(text, tokens, quotes.attributes.as_slice(), p);
-            Ok(end)
-        }
+        Subject::Query => query_in(alloc, text, tokens, p),
+        Subject::Change => change_in(alloc, text, tokens, p),
+        Subject::Xml => xml_in(alloc, text, tokens, p),
         Subject::Decl => decl_in(alloc, tokens, p),
         Subject::Signature => signature_in(alloc, tokens, p),
         Subject::Module => module_in(alloc, tokens, p),
     }
+}
+
+fn kind_in(alloc: Global, tokens: &Tokens, p: &mut Printer) -> Result<usize, Stop> {
+    let parsed = read_kind(alloc, tokens, 0, MAX_PARENTHESES)?;
+    kind(p, &parsed.tree);
+    Ok(parsed.end)
+}
+
+fn con_param_in(alloc: Global, tokens: &Tokens, p: &mut Printer) -> Result<usize, Stop> {
+    let parsed = read_con_param(alloc, tokens, 0, MAX_NESTING, MAX_PARENTHESES)?;
+    con_param(p, &parsed.tree);
+    Ok(parsed.end)
+}
+
+fn param_in(alloc: Global, tokens: &Tokens, p: &mut Printer) -> Result<usize, Stop> {
+    let parsed = read_param(alloc, tokens, 0, MAX_NESTING, MAX_PARENTHESES)?;
+    param(p, &parsed.tree);
+    Ok(parsed.end)
+}
+
+fn binder_in(alloc: Global, tokens: &Tokens, p: &mut Printer) -> Result<usize, Stop> {
+    let (bound, end) = read_binder(alloc, tokens, 0)?;
+    binder(p, &bound);
+    Ok(end)
+}
+
+fn pat_in(alloc: Global, tokens: &Tokens, p: &mut Printer) -> Result<usize, Stop> {
+    let parsed = read_pat(alloc, tokens, 0)?;
+    pat(p, &parsed.tree);
+    Ok(parsed.end)
+}
+
+fn removed_in(alloc: Global, tokens: &Tokens, p: &mut Printer) -> Result<usize, Stop> {
+    let (removed, end) = read_removed(alloc, tokens, 0)?;
+    field(p, &removed.name);
+    Ok(end)
+}
+
+fn query_in(alloc: Global, text: &str, tokens: &Tokens, p: &mut Printer) -> Result<usize, Stop> {
+    let Skeleton { tree, quotes, end } = sql_query(alloc, tokens, 0)?;
+    query(p, &tree);
+    codes(text, tokens, quotes.exps.as_slice(), p);
+    Ok(end)
+}
+
+fn change_in(alloc: Global, text: &str, tokens: &Tokens, p: &mut Printer) -> Result<usize, Stop> {
+    let Skeleton { tree, quotes, end } = sql_change(alloc, tokens, 0)?;
+    change(p, &tree);
+    codes(text, tokens, quotes.exps.as_slice(), p);
+    Ok(end)
+}
+
+fn xml_in(alloc: Global, text: &str, tokens: &Tokens, p: &mut Printer) -> Result<usize, Stop> {
+    let Skeleton { tree, quotes, end } = xml(alloc, tokens, 0)?;
+    parts(p, tree.parts.as_slice());
+    codes(text, tokens, quotes.exps.as_slice(), p);
+    codes(text, tokens, quotes.attributes.as_slice(), p);
+    Ok(end)
 }
 
 fn con_in(alloc: Global, tokens: &Tokens, place: ConPlace, p: &mut Printer) -> Result<usize, Stop> {
