@@ -1,0 +1,210 @@
+-- One more change of a store.
+use Rattle.std.proofs.Common.{◌≡◌, ℕ, ◌+◌, ◌≤◌, ◌<◌, max, ℤ, pos, ◌+ℤ◌, ◌≤ℤ◌, ◌<ℤ◌, Bool, true, false, not, cond, ◌||◌, ◌==◌, List, [], ◌∷◌, ◌++◌, length, map, fold, All, Option, Some, None, IfSome, is_some, refl, ap, sym, subst, ◌∙◌, arith}
+use Rattle.std.specs.Prelude.{IsTrue, unsigned_abs, unwrap_or}
+use Rattle.std.specs.Ordering.{int_cmp, int_eq, eq_by_cmp}
+use Rattle.std.specs.FinMap.{insert, remove, find, get-insert, get-remove}
+use Rattle.std.proofs.lemmas.Int.{ints}
+use Rattle.std.proofs.lemmas.Bool.Decides.{nat_tests}
+use Rattle.std.proofs.lemmas.List.{map-append}
+use Rattle.std.proofs.lemmas.List.Elements.{All-head, All-tail}
+use Rattle.std.proofs.lemmas.List.Sums.{fold-append}
+use Rattle.ur_values.specs.declared.schema.ColumnKind.{ColumnKind}
+use Rattle.ur_values.specs.declared.schema.Schema.{Schema}
+use Rattle.ur_values.specs.declared.schema.Numbered.{Numbered}
+use Rattle.ur_values.specs.Numbered.{next_number, has_number, add_row}
+use Rattle.ur_values.specs.Store.{Row}
+use Rattle.ur_values.specs.Values.{IsInt}
+use Rattle.ur_keeper.specs.Tables.{inserted, replaced, removed, drawn}
+use Rattle.ur_layout.specs.Rows.{int_body, row_body, number_of, MayStand}
+use Rattle.ur_bodies.specs.declared.bodies.BodyChange.{BodyChange}
+use Rattle.ur_bodies.specs.declared.bodies.BodyChange.TheVariants as change
+use Rattle.ur_bodies.specs.Bodies.{BodyMap, body_at, bodies_of, written, written_one, CanWrite, CanWriteOne}
+use Rattle.ur_bodies.proofs.Places.{place_total}
+use Rattle.ur_bodies.proofs.Tables.{bodies-find, bodies-put, bodies-put-elsewhere, place-tie}
+use Rattle.ur_laid.specs.Laid.{table_tab, text_at, kinds_at, rows_in, table_in, number_in, number_of_body, tables_in, IsRowBody, IsLaid}
+use Rattle.ur_laid.proofs.Rows.{fold-least, rows-added, same-number}
+use Rattle.ur_laid.proofs.Laws.{inserted-in, laid-inserted, replaced-in, laid-replaced, removed-in, laid-removed, drawn-in, laid-drawn, apart-from-tables}
+use Rattle.ur_kept.specs.declared.pending.Pending.{Pending}
+use Rattle.ur_kept.specs.Kept.{no_changes, IsGood, IsSeen, IsPending, IsChanged, IsNumber}
+
+-- ---- the list of changes
+
+pub written-push : (m : BodyMap) (cs : List BodyChange) (c : BodyChange) → written m (cs ++ c ∷ []) ≡ written_one (written m cs) c
+written-push m [] c = refl
+written-push m (d ∷ cs) c = written-push (written_one m d) cs c
+
+pub can-push : (m : BodyMap) (cs : List BodyChange) (c : BodyChange) → CanWrite m cs → CanWriteOne (written m cs) c → CanWrite m (cs ++ c ∷ [])
+can-push m [] c h one = (one, tt)
+can-push m (d ∷ cs) c h one = (h.0, can-push (written_one m d) cs c h.1 one)
+
+-- ---- the numbers of a table
+
+pub has-there : (kinds : List ColumnKind) (n : ℕ) (es : List (ℤ × List ℕ)) → All (IsRowBody kinds) es → is_some (find int_cmp (pos n) es) ≡ has_number (rows_in kinds es) n
+has-there kinds n [] h = refl
+has-there kinds n (e ∷ es) h =
+    chosen (eq_by_cmp int_cmp (pos n) e.0) (unsigned_abs e.0 == n) (same-number e.0 n (All-head (IsRowBody kinds) e es h).low) (has-there kinds n es (All-tail (IsRowBody kinds) e es h))
+  where
+    chosen : (a b : Bool) → a ≡ b → is_some (find int_cmp (pos n) es) ≡ has_number (rows_in kinds es) n → is_some (cond a (Some e.1) (find int_cmp (pos n) es)) ≡ (b || has_number (rows_in kinds es) n)
+    chosen a true same r = ap (λ (x : Bool). is_some (cond x (Some e.1) (find int_cmp (pos n) es))) same
+    chosen a false same r = ap (λ (x : Bool). is_some (cond x (Some e.1) (find int_cmp (pos n) es))) same ∙ r
+
+other-number : (k n : ℕ) → k < n → (k == n) ≡ false
+other-number k n h = grind (arith, nat_tests)
+
+above-none : (a n : ℕ) (rows : List Numbered) → fold max a (map (λ r. r.number + 1) rows) ≤ n → has_number rows n ≡ false
+above-none a n [] h = refl
+above-none a n (r ∷ rows) h =
+    let l : max a (r.number + 1) ≤ n = omega (arith, h, fold-least (max a (r.number + 1)) (map (λ (r : Numbered). r.number + 1) rows)) in
+    ap (λ t. t || has_number rows n) (other-number r.number n (omega (arith, l))) ∙ above-none (max a (r.number + 1)) n rows h
+
+next-free : (rows : List Numbered) → has_number rows (next_number rows) ≡ false
+next-free rows = above-none 0 (next_number rows) rows (omega arith)
+
+pub next-push : (rows : List Numbered) (r : Numbered) → next_number (rows ++ r ∷ []) ≡ max (next_number rows) (r.number + 1)
+next-push rows r =
+    let next : Numbered → ℕ = λ r. r.number + 1 in
+    ap (λ (x : List ℕ). fold max 0 x) (map-append next rows (r ∷ [])) ∙ fold-append max 0 (map next rows) ((r.number + 1) ∷ [])
+
+next-added : (rows : List Numbered) (row : Row) → next_number (add_row rows row) ≡ next_number rows + 1
+next-added rows row = next-push rows (record { number = next_number rows; row = row }) ∙ most (next_number rows)
+  where
+    most : (n : ℕ) → max n (n + 1) ≡ n + 1
+    most n = omega arith
+
+-- ---- the text
+
+pub text-put : (m : BodyMap) (t n : ℤ) (v : List ℕ) → int_eq t (pos 0) ≡ false → text_at (insert m (t, n) v) ≡ text_at m
+text-put m t n v other = get-insert place_total m (t, n) v (pos 0, pos 0) ∙ ap (λ b. cond b (Some v) (text_at m)) (place-tie (pos 0) t (pos 0) n false other)
+
+text-taken : (m : BodyMap) (t n : ℤ) → int_eq t (pos 0) ≡ false → text_at (remove m (t, n)) ≡ text_at m
+text-taken m t n other = get-remove place_total m (t, n) (pos 0, pos 0) ∙ ap (λ b. cond b None (text_at m)) (place-tie (pos 0) t (pos 0) n false other)
+
+table-apart : (i : ℕ) → int_eq (table_tab i) (pos 0) ≡ false
+table-apart i = grind arith
+
+-- ---- given up, and saved
+
+pub given-up : (s : Schema) (m : BodyMap) (p : Pending) → IsPending s m p → IsPending s m no_changes
+given-up s m p h = record { good = record { text = h.good.text; saved = h.good.saved; fits = tt; text_stays = h.good.text; current = h.good.saved }; seen = tt }
+
+pub saved-now : (s : Schema) (m : BodyMap) (p : Pending) → IsPending s m p → IsPending s (written m p.changes) no_changes
+saved-now s m p h = record { good = record { text = h.good.text_stays; saved = h.good.current; fits = tt; text_stays = h.good.text_stays; current = h.good.current }; seen = tt }
+
+-- ---- one more change
+
+module _ (s : Schema) (m : BodyMap) (old : Pending) (p : IsPending s m old) where
+  abbrev now : BodyMap
+  now = written m old.changes
+
+  good-push : (c : BodyChange) → CanWriteOne now c → text_at (written_one now c) ≡ text_at now → IsLaid s (written_one now c) → IsGood s m (old.changes ++ c ∷ [])
+  good-push c can text laid =
+      let e = written-push m old.changes c in
+      record {
+        text = p.good.text;
+        saved = p.good.saved;
+        fits = can-push m old.changes c p.good.fits can;
+        text_stays = ap text_at e ∙ text ∙ p.good.text_stays;
+        current = subst (λ (x : BodyMap). IsLaid s x) (sym e) laid;
+      }
+
+  is-there : (i n : ℕ) → i < length s.tables → is_some (body_at now (table_tab i) (pos n)) ≡ has_number (table_in s now i) n
+  is-there i n l = ap is_some (sym (bodies-find now (table_tab i) (pos n))) ∙ has-there (kinds_at s i) n (bodies_of now (table_tab i)) (p.good.current.tables i l)
+
+  module _ (i : ℕ) (row : Row) (l : i < length s.tables) (may : MayStand (kinds_at s i) row) where
+    abbrev next : ℕ
+    next = next_number (table_in s now i)
+
+    abbrev added : BodyMap
+    added = insert now (table_tab i, pos next) (row_body row)
+
+    next-there : pos next +ℤ pos 1 ≡ pos (next_number (table_in s added i))
+    next-there =
+        let rows = ap (rows_in (kinds_at s i)) (bodies-put now (table_tab i) (pos next) (row_body row)) ∙ rows-added (kinds_at s i) row (bodies_of now (table_tab i)) (p.good.current.tables i l) may in
+        one-more next ∙ ap pos (sym (next-added (table_in s now i) row)) ∙ ap (λ (x : List Numbered). pos (next_number x)) (sym rows)
+      where
+        one-more : (n : ℕ) → pos n +ℤ pos 1 ≡ pos (n + 1)
+        one-more n = grind arith
+
+    seen-added : (seen : Option (ℕ × ℤ)) → IfSome seen (λ x. x ≡ (i, pos next +ℤ pos 1)) → IsSeen s added seen
+    seen-added None h = tt
+    seen-added (Some x) h = subst (λ (q : ℕ × ℤ). q.1 ≡ pos (next_number (table_in s added q.0))) (sym h) next-there
+
+    inserted-next : (seen : Option (ℕ × ℤ)) → IfSome seen (λ x. x ≡ (i, pos next +ℤ pos 1)) → IsChanged s (inserted i row) m old (record { changes = old.changes ++ change.Add (table_tab i) (pos next) (row_body row) ∷ []; seen = seen })
+    inserted-next seen h =
+        let c = change.Add (table_tab i) (pos next) (row_body row) in
+        let e = written-push m old.changes c in
+        record {
+          pending = record {
+            good = good-push c (ap not (is-there i next l ∙ next-free (table_in s now i))) (text-put now (table_tab i) (pos next) (row_body row) (table-apart i)) (laid-inserted s now i row l p.good.current may);
+            seen = subst (λ (x : BodyMap). IsSeen s x seen) (sym e) (seen-added seen h);
+          };
+          tables = ap (tables_in s) e ∙ inserted-in s now i row l p.good.current may;
+        }
+
+    pub is-inserted : (z : ℤ) (seen : Option (ℕ × ℤ)) (new : Pending) → z ≡ pos next → IfSome seen (λ x. x ≡ (i, z +ℤ pos 1)) → new ≡ record { changes = old.changes ++ change.Add (table_tab i) z (row_body row) ∷ []; seen = seen } → IsChanged s (inserted i row) m old new
+    is-inserted z seen new is h e =
+        let from = subst (λ (z : ℤ). IfSome seen (λ x. x ≡ (i, z +ℤ pos 1)) → IsChanged s (inserted i row) m old (record { changes = old.changes ++ change.Add (table_tab i) z (row_body row) ∷ []; seen = seen })) (sym is) (inserted-next seen) in
+        subst (λ (x : Pending). IsChanged s (inserted i row) m old x) (sym e) (from h)
+
+    replaced-at : (n : ℕ) → has_number (table_in s now i) n ≡ true → IsChanged s (replaced i n row) m old (record { changes = old.changes ++ change.Put (table_tab i) (pos n) (row_body row) ∷ []; seen = None })
+    replaced-at n there =
+        let c = change.Put (table_tab i) (pos n) (row_body row) in
+        let e = written-push m old.changes c in
+        record {
+          pending = record {
+            good = good-push c (is-there i n l ∙ there) (text-put now (table_tab i) (pos n) (row_body row) (table-apart i)) (laid-replaced s now i n row l p.good.current may);
+            seen = tt;
+          };
+          tables = ap (tables_in s) e ∙ replaced-in s now i n row l p.good.current may there;
+        }
+
+    pub is-replaced : (n : ℕ) (z : ℤ) (new : Pending) → z ≡ pos n → has_number (table_in s now i) n ≡ true → new ≡ record { changes = old.changes ++ change.Put (table_tab i) z (row_body row) ∷ []; seen = None } → IsChanged s (replaced i n row) m old new
+    is-replaced n z new is there e =
+        subst (λ (x : Pending). IsChanged s (replaced i n row) m old x) (sym e)
+        (subst (λ (z : ℤ). IsChanged s (replaced i n row) m old (record { changes = old.changes ++ change.Put (table_tab i) z (row_body row) ∷ []; seen = None })) (sym is) (replaced-at n there))
+
+  removed-at : (i n : ℕ) → i < length s.tables → has_number (table_in s now i) n ≡ true → IsChanged s (removed i n) m old (record { changes = old.changes ++ change.Drop (table_tab i) (pos n) ∷ []; seen = None })
+  removed-at i n l there =
+      let c = change.Drop (table_tab i) (pos n) in
+      let e = written-push m old.changes c in
+      record {
+        pending = record {
+          good = good-push c (is-there i n l ∙ there) (text-taken now (table_tab i) (pos n) (table-apart i)) (laid-removed s now i n l p.good.current);
+          seen = tt;
+        };
+        tables = ap (tables_in s) e ∙ removed-in s now i n l p.good.current;
+      }
+
+  pub is-removed : (i n : ℕ) (z : ℤ) (new : Pending) → i < length s.tables → z ≡ pos n → has_number (table_in s now i) n ≡ true → new ≡ record { changes = old.changes ++ change.Drop (table_tab i) z ∷ []; seen = None } → IsChanged s (removed i n) m old new
+  is-removed i n z new l is there e =
+      subst (λ (x : Pending). IsChanged s (removed i n) m old x) (sym e)
+      (subst (λ (z : ℤ). IsChanged s (removed i n) m old (record { changes = old.changes ++ change.Drop (table_tab i) z ∷ []; seen = None })) (sym is) (removed-at i n l there))
+
+  pub number-is : (q : ℕ) (n : ℤ) → IsNumber (body_at now (pos 1) (pos q)) n → number_in now q ≡ n
+  number-is q n h = ap number_of_body h.1 ∙ ap (λ o. unwrap_or o (pos 1)) h.2
+
+  seen-stays : (q : ℕ) (v : List ℕ) (seen : Option (ℕ × ℤ)) → IsSeen s now seen → IsSeen s (insert now (pos 1, pos q) v) seen
+  seen-stays q v None h = tt
+  seen-stays q v (Some x) h = h ∙ ap (λ es. pos (next_number (rows_in (kinds_at s x.0) es))) (sym (bodies-put-elsewhere now (table_tab x.0) (pos 1) (pos q) v (apart-from-tables x.0)))
+
+  drawn-at : (q : ℕ) → q < length s.sequences → IsInt (number_in now q +ℤ pos 1) → pos 1 ≤ℤ (number_in now q +ℤ pos 1) → is_some (body_at now (pos 1) (pos q)) ≡ true
+      → IsChanged s (drawn q) m old (record { changes = old.changes ++ change.Put (pos 1) (pos q) (int_body (number_in now q +ℤ pos 1)) ∷ []; seen = old.seen })
+  drawn-at q l fits low there =
+      let v = int_body (number_in now q +ℤ pos 1) in
+      let c = change.Put (pos 1) (pos q) v in
+      let e = written-push m old.changes c in
+      record {
+        pending = record {
+          good = good-push c there (text-put now (pos 1) (pos q) v refl) (laid-drawn s now q l p.good.current fits low);
+          seen = subst (λ (x : BodyMap). IsSeen s x old.seen) (sym e) (seen-stays q v old.seen p.seen);
+        };
+        tables = ap (tables_in s) e ∙ drawn-in s now q l p.good.current fits low;
+      }
+
+  pub is-drawn : (q : ℕ) (n : ℤ) (new : Pending) → q < length s.sequences → IsNumber (body_at now (pos 1) (pos q)) n → IsInt (n +ℤ pos 1) → pos 1 ≤ℤ n
+      → new ≡ record { changes = old.changes ++ change.Put (pos 1) (pos q) (int_body (n +ℤ pos 1)) ∷ []; seen = old.seen } → IsChanged s (drawn q) m old new
+  is-drawn q n new l is fits low e =
+      let same = number-is q n is in
+      subst (λ (x : Pending). IsChanged s (drawn q) m old x) (sym e)
+      (subst (λ (z : ℤ). IsInt (z +ℤ pos 1) → pos 1 ≤ℤ (z +ℤ pos 1) → IsChanged s (drawn q) m old (record { changes = old.changes ++ change.Put (pos 1) (pos q) (int_body (z +ℤ pos 1)) ∷ []; seen = old.seen })) same
+      (λ f w. drawn-at q l f w (ap is_some is.1)) fits (omega (arith, ints, low)))
