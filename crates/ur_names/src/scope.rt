@@ -1,0 +1,344 @@
+//! The names in scope, and those that were given in it.
+ghost use Rattle.std.specs.Prelude.{◌≡◌, [], ◌∷◌, ◌++◌, OnOk, IfOk, Some, None, take, bytes_eq};
+ghost use Rattle.ur_base.specs.Stopping.{Says};
+ghost use Rattle.ur_syntax.specs.Names.{same_module, name_text};
+ghost use Rattle.std.specs.List.{list_any};
+ghost use Rattle.ur_uses.specs.declared.event.Event.TheVariants as event;
+ghost use Rattle.ur_names.specs.Faults.{is_local, is_member, same_sort, sort_number, has_own, knows_own, knows_member, is_given, is_known_word, is_type_word, last_frame, given_before, after, key, Fault, unless, form_fault, fault_at, fault_in, Told, start};
+
+use std::alloc::Global;
+use ur_base::{List, Memory, Refusal, Span, Stop, Text};
+use ur_uses::{Event, Sort};
+
+/// A name of a sort, with its module where it is declared.
+#[derive(Drop)]
+pub struct Key {
+    pub sort: Sort,
+    pub home: Option<Text>,
+    pub name: Text,
+}
+
+/// How many names were bound and given where a scope begins.
+#[derive(Clone, Copy)]
+pub struct Frame {
+    pub bound: usize,
+    pub given: usize,
+}
+
+/// The module, the names that stand for something, those that were given in the open scopes, and these scopes.
+#[derive(Drop)]
+pub struct Scope {
+    pub home: Text,
+    pub bound: List<Key>,
+    pub given: List<Key>,
+    pub frames: List<Frame>,
+}
+
+fn copy(alloc: Global, x: &Text) -> Result<Text, Memory>
+    ensures { IfOk result (λ y. y ≡ x.now) }
+{
+    List::from_slice(alloc, x.as_slice())
+}
+
+fn sort_number(sort: Sort) -> u8
+    ensures { result ≡ sort_number sort }
+{
+    match sort {
+        Sort::Con => 0,
+        Sort::Value => 1,
+        Sort::Constructor => 2,
+        Sort::Table => 3,
+        Sort::Sequence => 4,
+        Sort::Cookie => 5,
+    }
+}
+
+fn same_sort(s: Sort, t: Sort) -> bool
+    ensures { result ≡ same_sort s t }
+{
+    sort_number(s) == sort_number(t)
+}
+
+fn is_local(sort: Sort, x: &[u8], key: &Key) -> bool
+    ensures { result ≡ is_local sort x.now key.now }
+{
+    same_sort(sort, key.sort) && (key.home.is_none() && x == key.name.as_slice())
+}
+
+fn is_home(home: &Option<Text>, m: &[u8]) -> bool
+    ensures { result ≡ same_module (Some m.now) home.now }
+{
+    match home {
+        Some(n) => m == n.as_slice(),
+        None => false,
+    }
+}
+
+fn is_member(sort: Sort, m: &[u8], x: &[u8], key: &Key) -> bool
+    ensures { result ≡ is_member sort m.now x.now key.now }
+{
+    same_sort(sort, key.sort) && (is_home(&key.home, m) && x == key.name.as_slice())
+}
+
+fn any_local(sort: Sort, x: &[u8], keys: &[Key]) -> bool
+    ensures { result ≡ list_any (is_local sort x.now) keys.now }
+{
+    for i in 0..keys.len() {
+        if is_local(sort, x, &keys[i]) {
+            return true;
+        }
+    }
+    false
+}
+
+fn any_member(sort: Sort, m: &[u8], x: &[u8], keys: &[Key]) -> bool
+    ensures { result ≡ list_any (is_member sort m.now x.now) keys.now }
+{
+    for i in 0..keys.len() {
+        if is_member(sort, m, x, &keys[i]) {
+            return true;
+        }
+    }
+    false
+}
+
+fn is(x: &[u8], word: &[u8]) -> bool
+    ensures { result ≡ bytes_eq x.now word.now }
+{
+    x == word
+}
+
+fn is_type_word(x: &[u8]) -> bool
+    ensures { result ≡ is_type_word x.now }
+{
+    is(x, b"int")
+        || is(x, b"string")
+        || is(x, b"bool")
+        || is(x, b"unit")
+        || is(x, b"page")
+        || is(x, b"xbody")
+        || is(x, b"xtable")
+        || is(x, b"xtr")
+        || is(x, b"xform")
+        || is(x, b"option")
+        || is(x, b"list")
+        || is(x, b"transaction")
+}
+
+fn is_known_word(sort: Sort, x: &[u8]) -> bool
+    ensures { result ≡ is_known_word sort x.now }
+{
+    match sort {
+        Sort::Con => is_type_word(x),
+        _ => false,
+    }
+}
+
+fn has_own(scope: &Scope, sort: Sort, x: &[u8]) -> bool
+    ensures { result ≡ has_own scope.now sort x.now }
+{
+    any_local(sort, x, scope.bound.as_slice())
+        || any_member(sort, scope.home.as_slice(), x, scope.bound.as_slice())
+}
+
+fn knows_own(scope: &Scope, sort: Sort, x: &[u8]) -> bool
+    ensures { result ≡ knows_own scope.now sort x.now }
+{
+    has_own(scope, sort, x) || is_known_word(sort, x)
+}
+
+fn knows_member(scope: &Scope, sort: Sort, m: &[u8], x: &[u8]) -> bool
+    ensures { result ≡ knows_member scope.now sort m.now x.now }
+{
+    if m == scope.home.as_slice() {
+        return false;
+    }
+    any_member(sort, m, x, scope.bound.as_slice())
+}
+
+fn is_given(scope: &Scope, sort: Sort, x: &[u8]) -> bool
+    ensures { result ≡ is_given scope.now sort x.now }
+{
+    let from = given_before(scope.frames.as_slice());
+    let given = scope.given.as_slice();
+    if from < given.len() {
+        return any_local(sort, x, &given[from..]);
+    }
+    false
+}
+
+fn given_before(frames: &[Frame]) -> usize
+    ensures { result ≡ given_before (last_frame frames.now) }
+{
+    match frames.split_last() {
+        Some((frame, _)) => frame.given,
+        None => 0,
+    }
+}
+
+fn refusal(alloc: Global, code: u8, span: Span, x: &Text) -> Result<Refusal, Memory>
+    ensures { IfOk result (λ r. Says r code x.now [] × (r.span ≡ span)) }
+{
+    let left = copy(alloc, x)?;
+    Ok(Refusal {
+        code,
+        span,
+        left,
+        right: List::new(alloc),
+    })
+}
+
+fn member_text(alloc: Global, m: &Text, x: &Text) -> Result<Text, Memory>
+    ensures { IfOk result (λ t. t ≡ name_text (Some m.now) x.now) }
+{
+    let mut text = copy(alloc, m)?;
+    text.extend_from_slice(b".")?;
+    text.extend_from_slice(x.as_slice())?;
+    Ok(text)
+}
+
+/// The fault of `xml form []`.
+fn check_form(alloc: Global, span: Span, xml: bool, form: bool) -> Result<(), Stop>
+    ensures { Told result (form_fault span xml form) }
+{
+    if xml {
+        if form {
+            return Ok(());
+        }
+        let word = List::from_slice(alloc, b"form")?;
+        return Err(Stop::Refused(refusal(alloc, 7, span, &word)?));
+    }
+    if form {
+        let word = List::from_slice(alloc, b"xml")?;
+        return Err(Stop::Refused(refusal(alloc, 7, span, &word)?));
+    }
+    Ok(())
+}
+
+/// The fault that an event is, where it is one.
+pub fn check(alloc: Global, scope: &Scope, event: &Event) -> Result<(), Stop>
+    ensures { Told result (fault_at scope.now event.now) }
+{
+    match event {
+        Event::Own(sort, span, x) => {
+            if knows_own(scope, *sort, x.as_slice()) {
+                return Ok(());
+            }
+            Err(Stop::Refused(refusal(alloc, 7, *span, x)?))
+        }
+        Event::Member(sort, span, m, x) => {
+            if knows_member(scope, *sort, m.as_slice(), x.as_slice()) {
+                return Ok(());
+            }
+            let text = member_text(alloc, m, x)?;
+            Err(Stop::Refused(refusal(alloc, 7, *span, &text)?))
+        }
+        Event::Form(span) => {
+            let xml = has_own(scope, Sort::Con, b"xml");
+            let form = has_own(scope, Sort::Con, b"form");
+            check_form(alloc, *span, xml, form)
+        }
+        Event::New(sort, span, x) => {
+            if is_given(scope, *sort, x.as_slice()) {
+                return Err(Stop::Refused(refusal(alloc, 8, *span, x)?));
+            }
+            Ok(())
+        }
+        _ => Ok(()),
+    }
+}
+
+fn local(alloc: Global, sort: Sort, x: &Text) -> Result<Key, Memory>
+    ensures { IfOk result (λ k. k ≡ key sort None x.now) }
+{
+    let name = copy(alloc, x)?;
+    Ok(Key {
+        sort,
+        home: None,
+        name,
+    })
+}
+
+/// Takes away what stands from a number on.
+fn cut(keys: &mut List<Key>, count: usize)
+    ensures { keys.new ≡ take count keys.old }
+{
+    while keys.len() > count {
+        keys.pop();
+    }
+}
+
+fn close(scope: &mut Scope)
+    ensures { scope.new ≡ after scope.old event.Close }
+{
+    match scope.frames.pop() {
+        Some(frame) => {
+            cut(&mut scope.bound, frame.bound);
+            cut(&mut scope.given, frame.given);
+        }
+        None => {}
+    }
+}
+
+/// The scope behind an event.
+pub fn step(alloc: Global, scope: &mut Scope, event: &Event) -> Result<(), Memory>
+    ensures { OnOk result (scope.new ≡ after scope.old event.now) }
+{
+    match event {
+        Event::New(sort, _, x) => {
+            let key = local(alloc, *sort, x)?;
+            scope.given.push(key)?;
+            Ok(())
+        }
+        Event::Bind(sort, x) => {
+            let key = local(alloc, *sort, x)?;
+            scope.bound.push(key)?;
+            Ok(())
+        }
+        Event::Declare(sort, x) => {
+            let home = copy(alloc, &scope.home)?;
+            let name = copy(alloc, x)?;
+            scope.bound.push(Key {
+                sort: *sort,
+                home: Some(home),
+                name,
+            })?;
+            Ok(())
+        }
+        Event::Open => {
+            let bound = scope.bound.len();
+            let given = scope.given.len();
+            scope.frames.push(Frame { bound, given })?;
+            Ok(())
+        }
+        Event::Close => {
+            close(scope);
+            Ok(())
+        }
+        Event::Enter(m) => {
+            scope.home = copy(alloc, m)?;
+            scope.given = List::new(alloc);
+            scope.frames = List::new(alloc);
+            Ok(())
+        }
+        _ => Ok(()),
+    }
+}
+
+/// The first fault of events, from nothing in scope.
+pub fn find(alloc: Global, events: &[Event]) -> Result<(), Stop>
+    ensures { Told result (fault_in start events.now) }
+{
+    let mut scope = Scope {
+        home: List::new(alloc),
+        bound: List::new(alloc),
+        given: List::new(alloc),
+        frames: List::new(alloc),
+    };
+    for i in 0..events.len() {
+        let event = &events[i];
+        check(alloc, &scope, event)?;
+        step(alloc, &mut scope, event)?;
+    }
+    Ok(())
+}
