@@ -1,5 +1,5 @@
 //! Sessions over a wire in memory, answered by paths.
-ghost use Rattle.std.specs.Prelude.{◌≡◌, ◌<◌, ◌≤◌, ℕ, Bool, true, None, tt, ⊤};
+ghost use Rattle.std.specs.Prelude.{◌≡◌, ◌<◌, ◌≤◌, ℕ, Bool, true, None, ⊤};
 
 use std::alloc::Global;
 use std::test::Fail;
