@@ -28,9 +28,21 @@ pub fn con(p: &mut Printer, of: &Con) {
             con(p, body.get());
             p.put(b")");
         }
-        ConForm::Arrow(from, to) => two(p, b"(->", from.get(), to.get()),
-        ConForm::Concat(left, right) => two(p, b"(++", left.get(), right.get()),
-        ConForm::App(function, argument) => two(p, b"(", function.get(), argument.get()),
+        ConForm::Arrow(from, to) => {
+            p.word(b"(->");
+            con(p, from.get());
+            last(p, to.get());
+        }
+        ConForm::Concat(left, right) => {
+            p.word(b"(++");
+            con(p, left.get());
+            last(p, right.get());
+        }
+        ConForm::App(function, argument) => {
+            p.word(b"(");
+            con(p, function.get());
+            last(p, argument.get());
+        }
         ConForm::Var(word) => name(p, word),
         ConForm::Member(home, word) => member(p, home, word),
         ConForm::Name(word) => literal(p, word),
@@ -44,11 +56,10 @@ pub fn con(p: &mut Printer, of: &Con) {
     }
 }
 
+/// The last constructor, and the end.
 #[cycle(cons)]
-fn two(p: &mut Printer, word: &[u8], left: &Con, right: &Con) {
-    p.word(word);
-    con(p, left);
-    con(p, right);
+fn last(p: &mut Printer, inner: &Con) {
+    con(p, inner);
     p.put(b")");
 }
 

@@ -53,7 +53,11 @@ pub fn exp(p: &mut Printer, of: &Exp) {
             exp(p, first.get());
             last(p, rest.get());
         }
-        ExpForm::Seq(first, rest) => two(p, b"(;", first.get(), rest.get()),
+        ExpForm::Seq(first, rest) => {
+            p.word(b"(;");
+            exp(p, first.get());
+            last(p, rest.get());
+        }
         ExpForm::If(test, yes, no) => {
             p.word(b"(if");
             exp(p, test.get());
@@ -74,7 +78,11 @@ pub fn exp(p: &mut Printer, of: &Exp) {
             cases(p, branches.as_slice());
             p.put(b")");
         }
-        ExpForm::Binary(by, left, right) => two(p, sign(*by), left.get(), right.get()),
+        ExpForm::Binary(by, left, right) => {
+            p.word(sign(*by));
+            exp(p, left.get());
+            last(p, right.get());
+        }
         ExpForm::Remove(from, removed) => {
             p.word(b"(--");
             exp(p, from.get());
@@ -82,7 +90,11 @@ pub fn exp(p: &mut Printer, of: &Exp) {
             p.put(b")");
         }
         ExpForm::Negative(inner) => one(p, b"(neg", inner.get()),
-        ExpForm::App(function, given) => two(p, b"(", function.get(), given.get()),
+        ExpForm::App(function, given) => {
+            p.word(b"(");
+            exp(p, function.get());
+            last(p, given.get());
+        }
         ExpForm::ConApp(function, given) => {
             p.word(b"(");
             exp(p, function.get());
@@ -179,14 +191,6 @@ fn last(p: &mut Printer, inner: &Exp) {
 fn one(p: &mut Printer, word: &[u8], inner: &Exp) {
     p.word(word);
     last(p, inner);
-}
-
-/// A word, two expressions, and the end.
-#[cycle(exps)]
-fn two(p: &mut Printer, word: &[u8], left: &Exp, right: &Exp) {
-    p.word(word);
-    exp(p, left);
-    last(p, right);
 }
 
 #[cycle(exps)]

@@ -1,5 +1,5 @@
 -- The small program fits, and its call is a request.
-use Rattle.std.proofs.Common.{◌<◌, refl, [], ◌∷◌, arith}
+use Rattle.std.proofs.Common.{◌≡◌, ◌<◌, refl, [], ◌∷◌, arith}
 use Rattle.std.proofs.lemmas.List.Elements.{All-from_recursion}
 use denote.Hole.Carrier
 use Rattle.ur_types.specs.declared.types.ValueType.TheVariants as ty
