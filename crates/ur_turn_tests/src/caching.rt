@@ -61,7 +61,10 @@ fn sees(
     marks: &[u8],
     reads: &[u8],
 ) -> Result<bool, Memory> {
-    let seen = seen(alloc, deed, capacity, marks.len() as u32, List::new(alloc))?;
+    let Ok(requests) = u32::try_from(marks.len()) else {
+        return Ok(false);
+    };
+    let seen = seen(alloc, deed, capacity, requests, List::new(alloc))?;
     Ok(seen.0.as_slice() == marks && seen.1.as_slice() == reads)
 }
 
