@@ -1,12 +1,16 @@
-//! Trees of 4,096 levels, read and dropped under the default stack.
+//! Trees of 4,096 levels, and expressions in 255 parentheses, read and dropped under the default stack.
+use crate::tall::Outcome::{End, Refused};
 use std::alloc::Global;
 use ur_base::{List, Stop};
 use ur_lex::{Tokens, lex};
 use ur_parse_code::Quotes;
-use ur_parse_con::{MAX_NESTING, read_con, read_kind};
+use ur_parse_con::{read_con, read_kind};
 use ur_parse_exp::read_exp;
+use ur_parse_module::parse;
 use ur_parse_rules::ConPlace;
 use ur_parse_sql::read_sexp;
+
+const NESTING: usize = 256;
 
 /// How many signs, or parentheses around kinds, may stand in each other.
 const LEVELS: usize = 1024;
@@ -18,67 +22,138 @@ enum Part {
     Con,
     Sql,
     Exp,
+    Module,
 }
 
-/// The tokens of a text, a piece 4,095 times, and another text.
-fn chain(alloc: Global, first: &[u8], piece: &[u8], last: &[u8]) -> Result<Tokens, Stop> {
+/// What a reader comes to.
+#[derive(Clone, Copy, Debug, PartialEq, Eq)]
+enum Outcome {
+    /// the place behind what is read, or how many declarations there are
+    End(usize),
+    Refused(u8),
+    Memory,
+}
+
+/// A text as its pieces: a front, what is repeated, what stands behind that, and what is repeated as often behind it.
+#[derive(Clone, Copy)]
+struct Text {
+    front: &'static [u8],
+    before: &'static [u8],
+    middle: &'static [u8],
+    behind: &'static [u8],
+}
+
+fn tokens(alloc: Global, text: Text, count: usize) -> Result<Tokens, Stop> {
     let mut source: List<u8> = List::new(alloc);
-    source.extend_from_slice(first)?;
-    for _ in 0..4095 {
-        source.extend_from_slice(piece)?;
+    source.extend_from_slice(text.front)?;
+    for _ in 0..count {
+        source.extend_from_slice(text.before)?;
     }
-    source.extend_from_slice(last)?;
+    source.extend_from_slice(text.middle)?;
+    for _ in 0..count {
+        source.extend_from_slice(text.behind)?;
+    }
     if source.len() > 1048576 {
         return Err(Stop::Memory);
     }
     lex(alloc, 1, source.as_slice())
 }
 
-/// The place behind what is read.
-fn end_of(alloc: Global, part: Part, tokens: &Tokens) -> Result<usize, Stop> {
+fn read(alloc: Global, part: Part, tokens: &Tokens) -> Result<usize, Stop> {
     match part {
         Part::Kind => Ok(read_kind(alloc, tokens, 0, LEVELS)?.end),
-        Part::Con => {
-            let place = ConPlace::Plain;
-            Ok(read_con(alloc, tokens, 0, MAX_NESTING, LEVELS, place)?.end)
-        }
+        Part::Con => Ok(read_con(alloc, tokens, 0, NESTING, LEVELS, ConPlace::Plain)?.end),
         Part::Sql => {
             let mut quotes = Quotes::new(alloc);
-            Ok(read_sexp(alloc, tokens, 0, MAX_NESTING, LEVELS, false, &mut quotes)?.end)
+            Ok(read_sexp(alloc, tokens, 0, NESTING, LEVELS, false, &mut quotes)?.end)
         }
-        Part::Exp => Ok(read_exp(alloc, tokens, 0, MAX_NESTING, LEVELS)?.end),
+        Part::Exp => Ok(read_exp(alloc, tokens, 0, NESTING, LEVELS)?.end),
+        Part::Module => Ok(parse(alloc, tokens)?.decls.len()),
     }
 }
 
-/// The place behind what is read of a chain, or 0 where nothing is.
-fn end(alloc: Global, part: Part, first: &[u8], piece: &[u8], last: &[u8]) -> usize {
-    match chain(alloc, first, piece, last) {
-        Ok(tokens) => end_of(alloc, part, &tokens).unwrap_or(0),
-        Err(_) => 0,
+fn outcome(alloc: Global, part: Part, text: Text, count: usize) -> Outcome {
+    let found = match tokens(alloc, text, count) {
+        Ok(found) => found,
+        Err(stop) => return stopped(stop),
+    };
+    match read(alloc, part, &found) {
+        Ok(end) => End(end),
+        Err(stop) => stopped(stop),
+    }
+}
+
+/// What a reader comes to that reads nothing.
+fn stopped(stop: Stop) -> Outcome {
+    match stop {
+        Stop::Refused(refusal) => Refused(refusal.code),
+        Stop::Memory => Outcome::Memory,
+    }
+}
+
+/// A front, and a piece repeated behind it.
+fn chain(front: &'static [u8], before: &'static [u8], middle: &'static [u8]) -> Text {
+    Text {
+        front,
+        before,
+        middle,
+        behind: b"",
+    }
+}
+
+/// A name in parentheses.
+fn nest(front: &'static [u8], middle: &'static [u8]) -> Text {
+    Text {
+        front,
+        before: b"(",
+        middle,
+        behind: b")",
     }
 }
 
 #[test]
 fn kinds(rt: HostRuntime) {
-    assert_eq!(rt;
-        end(rt.alloc(), Part::Kind, b"", b"Type -> ", b"Type"),
-        8191
-    );
+    let text = chain(b"", b"Type -> ", b"Type");
+    assert_eq!(rt; outcome(rt.alloc(), Part::Kind, text, 4095), End(8191));
 }
 
 #[test]
 fn constructors(rt: HostRuntime) {
-    assert_eq!(rt; end(rt.alloc(), Part::Con, b"", b"t -> ", b"t"), 8191);
-    assert_eq!(rt; end(rt.alloc(), Part::Con, b"", b"t ++ ", b"t"), 8191);
-    assert_eq!(rt; end(rt.alloc(), Part::Con, b"t", b" t", b""), 4096);
+    let arrows = chain(b"", b"t -> ", b"t");
+    assert_eq!(rt; outcome(rt.alloc(), Part::Con, arrows, 4095), End(8191));
+    let unions = chain(b"", b"t ++ ", b"t");
+    assert_eq!(rt; outcome(rt.alloc(), Part::Con, unions, 4095), End(8191));
+    let applications = chain(b"t", b" t", b"");
+    assert_eq!(rt;
+        outcome(rt.alloc(), Part::Con, applications, 4095),
+        End(4096)
+    );
 }
 
 #[test]
 fn expressions_of_sql(rt: HostRuntime) {
-    assert_eq!(rt; end(rt.alloc(), Part::Sql, b"1", b"+1", b""), 8191);
+    let sums = chain(b"1", b"+1", b"");
+    assert_eq!(rt; outcome(rt.alloc(), Part::Sql, sums, 4095), End(8191));
 }
 
 #[test]
-fn expressions(rt: HostRuntime) {
-    assert_eq!(rt; end(rt.alloc(), Part::Exp, b"1", b"+1", b""), 8191);
+fn sums(rt: HostRuntime) {
+    let sums = chain(b"1", b"+1", b"");
+    assert_eq!(rt; outcome(rt.alloc(), Part::Exp, sums, 4095), End(8191));
+    assert_eq!(rt; outcome(rt.alloc(), Part::Exp, sums, 4096), Outcome::Memory);
+    let shown = chain(b"<xml>{[1", b"+1", b"]}</xml>");
+    assert_eq!(rt;
+        outcome(rt.alloc(), Part::Exp, shown, 4095),
+        Outcome::Memory
+    );
+}
+
+#[test]
+fn parentheses(rt: HostRuntime) {
+    let name = nest(b"", b"x");
+    assert_eq!(rt; outcome(rt.alloc(), Part::Exp, name, 255), End(511));
+    assert_eq!(rt; outcome(rt.alloc(), Part::Exp, name, 256), Refused(6));
+    let value = nest(b"val x : int = ", b"1");
+    assert_eq!(rt; outcome(rt.alloc(), Part::Module, value, 255), End(1));
+    assert_eq!(rt; outcome(rt.alloc(), Part::Module, value, 256), Refused(6));
 }
