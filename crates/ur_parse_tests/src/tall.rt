@@ -72,7 +72,7 @@ fn read(alloc: Global, part: Part, tokens: &Tokens) -> Result<usize, Stop> {
     }
 }
 
-fn outcome(alloc: Global, part: Part, text: Text, count: usize) -> Outcome {
+fn comes_to(alloc: Global, part: Part, text: Text, count: usize) -> Outcome {
     let found = match tokens(alloc, text, count) {
         Ok(found) => found,
         Err(stop) => return stopped(stop),
@@ -114,18 +114,18 @@ fn nest(front: &'static [u8], middle: &'static [u8]) -> Text {
 #[test]
 fn kinds(rt: HostRuntime) {
     let text = chain(b"", b"Type -> ", b"Type");
-    assert_eq!(rt; outcome(rt.alloc(), Part::Kind, text, 4095), End(8191));
+    assert_eq!(rt; comes_to(rt.alloc(), Part::Kind, text, 4095), End(8191));
 }
 
 #[test]
 fn constructors(rt: HostRuntime) {
     let arrows = chain(b"", b"t -> ", b"t");
-    assert_eq!(rt; outcome(rt.alloc(), Part::Con, arrows, 4095), End(8191));
+    assert_eq!(rt; comes_to(rt.alloc(), Part::Con, arrows, 4095), End(8191));
     let unions = chain(b"", b"t ++ ", b"t");
-    assert_eq!(rt; outcome(rt.alloc(), Part::Con, unions, 4095), End(8191));
+    assert_eq!(rt; comes_to(rt.alloc(), Part::Con, unions, 4095), End(8191));
     let applications = chain(b"t", b" t", b"");
     assert_eq!(rt;
-        outcome(rt.alloc(), Part::Con, applications, 4095),
+        comes_to(rt.alloc(), Part::Con, applications, 4095),
         End(4096)
     );
 }
@@ -133,17 +133,20 @@ fn constructors(rt: HostRuntime) {
 #[test]
 fn expressions_of_sql(rt: HostRuntime) {
     let sums = chain(b"1", b"+1", b"");
-    assert_eq!(rt; outcome(rt.alloc(), Part::Sql, sums, 4095), End(8191));
+    assert_eq!(rt; comes_to(rt.alloc(), Part::Sql, sums, 4095), End(8191));
 }
 
 #[test]
 fn sums(rt: HostRuntime) {
     let sums = chain(b"1", b"+1", b"");
-    assert_eq!(rt; outcome(rt.alloc(), Part::Exp, sums, 4095), End(8191));
-    assert_eq!(rt; outcome(rt.alloc(), Part::Exp, sums, 4096), Outcome::Memory);
+    assert_eq!(rt; comes_to(rt.alloc(), Part::Exp, sums, 4095), End(8191));
+    assert_eq!(rt;
+        comes_to(rt.alloc(), Part::Exp, sums, 4096),
+        Outcome::Memory
+    );
     let shown = chain(b"<xml>{[1", b"+1", b"]}</xml>");
     assert_eq!(rt;
-        outcome(rt.alloc(), Part::Exp, shown, 4095),
+        comes_to(rt.alloc(), Part::Exp, shown, 4095),
         Outcome::Memory
     );
 }
@@ -151,9 +154,9 @@ fn sums(rt: HostRuntime) {
 #[test]
 fn parentheses(rt: HostRuntime) {
     let name = nest(b"", b"x");
-    assert_eq!(rt; outcome(rt.alloc(), Part::Exp, name, 255), End(511));
-    assert_eq!(rt; outcome(rt.alloc(), Part::Exp, name, 256), Refused(6));
+    assert_eq!(rt; comes_to(rt.alloc(), Part::Exp, name, 255), End(511));
+    assert_eq!(rt; comes_to(rt.alloc(), Part::Exp, name, 256), Refused(6));
     let value = nest(b"val x : int = ", b"1");
-    assert_eq!(rt; outcome(rt.alloc(), Part::Module, value, 255), End(1));
-    assert_eq!(rt; outcome(rt.alloc(), Part::Module, value, 256), Refused(6));
+    assert_eq!(rt; comes_to(rt.alloc(), Part::Module, value, 255), End(1));
+    assert_eq!(rt; comes_to(rt.alloc(), Part::Module, value, 256), Refused(6));
 }
