@@ -1,7 +1,8 @@
 //! Values as segments of paths.
-ghost use Rattle.std.specs.Prelude.{◌≡◌, ◌++◌, IfOk, OnOk, option_map};
+ghost use Rattle.std.specs.Prelude.{◌≡◌, ◌++◌, IfOk, IfSome, OnOk, option_map};
 ghost use Rattle.std.specs.Str.{is_utf8};
 ghost use Rattle.ur_values.specs.Atom.{IsAtomic};
+ghost use Rattle.ur_values.specs.Store.{FitsKind};
 ghost use Rattle.ur_tags.specs.Segments as segments;
 ghost use Rattle.ur_tags.specs.Segments.{SegmentsBack};
 
@@ -25,12 +26,10 @@ pub fn segment(alloc: Global, value: &Value) -> Result<Text, Memory>
 
 /// The value of this kind that the segment is read as, if it is one. Other encodings of the same text are read too.
 pub fn unsegment(alloc: Global, text: &str, kind: ColumnKind) -> Result<Option<Value>, Memory>
-    ensures { IfOk result (λ value. value ≡ segments.unsegment kind text.now) }
+    ensures value { IfOk result (λ value. value ≡ segments.unsegment kind text.now) }
+    ensures own { IfOk result (λ value. IfSome value (λ x. FitsKind x kind)) }
 {
-    match decode(alloc, text.as_bytes())? {
-        Some(text) => value_of(alloc, kind, text.as_slice()),
-        None => Ok(None),
-    }
+    read(alloc, text, kind)
 }
 
 /// The law that each int, text and bool is read from its segment.
@@ -105,6 +104,16 @@ fn is_unreserved(byte: u8) -> bool
 }
 
 // ---- values of segments
+
+/// The value of this kind that the segment is read as.
+fn read(alloc: Global, text: &str, kind: ColumnKind) -> Result<Option<Value>, Memory>
+    ensures { IfOk result (λ value. value ≡ segments.unsegment kind text.now) }
+{
+    match decode(alloc, text.as_bytes())? {
+        Some(text) => value_of(alloc, kind, text.as_slice()),
+        None => Ok(None),
+    }
+}
 
 /// The text that a segment decodes to. An empty segment, and one that is not UTF-8, decodes to none.
 pub fn decode(alloc: Global, segment: &[u8]) -> Result<Option<Text>, Memory>
