@@ -1,5 +1,5 @@
 -- The path of a call leads back to it.
-use Rattle.std.proofs.Common.{◌≡◌, ◌≢◌, ℕ, zero, suc, ◌+◌, ◌<◌, ◌==◌, ◌⊎◌, Bool, true, false, cond, ◌&&◌, List, [], ◌∷◌, ◌++◌, Option, Some, None, length, drop, get_or, slice_get, bytes_eq, codes, All, AllPairs, option_map, option_and_then, refl, sym, ap, ap₂, subst, ◌∙◌, ⊎_elim, append_assoc, append-nil, arith}
+use Rattle.std.proofs.Common.{◌≡◌, ℕ, zero, suc, ◌+◌, ◌<◌, ◌==◌, Bool, true, false, cond, ◌&&◌, List, [], ◌∷◌, ◌++◌, Option, Some, None, length, drop, get_or, slice_get, bytes_eq, codes, All, AllPairs, option_map, option_and_then, refl, sym, ap, ap₂, subst, ◌∙◌, ⊎_elim, append_assoc, append-nil, arith}
 use Rattle.std.specs.List.{flat_map, AllZip}
 use Rattle.std.proofs.lemmas.Bool.{and_parts}
 use Rattle.std.proofs.lemmas.List.Splits.{slice_split_none, slice_split_at}
@@ -15,7 +15,7 @@ use Rattle.ur_tags.specs.declared.routes.Param.{Param}
 use Rattle.ur_tags.specs.declared.routes.Param.TheVariants as param
 use Rattle.ur_tags.specs.declared.routes.Route.{Route}
 use Rattle.ur_tags.specs.declared.routes.Handlers.{Handlers}
-use Rattle.ur_tags.specs.Routes.{FitsParam, IsNamed, AreRoutes}
+use Rattle.ur_tags.specs.Routes.{FitsParam, IsNamed, AreApart, AreRoutes}
 use Rattle.ur_tags.specs.Segments.{encode, decode, segment, text_of}
 use Rattle.ur_tags.specs.Paths.{argument_path, names_path, path, kind_of, argument, arguments, is_named, call_from, route, split, decode_all, segments_of, RoutesBack}
 use Rattle.ur_tags.proofs.Bytes.{decode-encode, IsNoSlash, encode-IsNoSlash}
@@ -108,13 +108,10 @@ not_true : (b : Bool) → ¬ (b ≡ true) → b ≡ false
 not_true true h = absurd (h refl)
 not_true false h = refl
 
-abbrev AreApart : Route → Route → Type 0
-AreApart r s = (r.module_name ≢ s.module_name) ⊎ (r.function_name ≢ s.function_name)
-
 named_itself : (r : Route) → is_named r r.module_name r.function_name ≡ true
 named_itself r = ap₂ (λ a b. a && b) ((bytes_eq-Decides r.module_name r.module_name).1 refl) ((bytes_eq-Decides r.function_name r.function_name).1 refl)
 
-named_apart : (r s : Route) → AreApart r s → is_named r s.module_name s.function_name ≡ false
+pub named_apart : (r s : Route) → AreApart r s → is_named r s.module_name s.function_name ≡ false
 named_apart r s apart =
     not_true _ (λ e. let both = and_parts (bytes_eq r.module_name s.module_name) (bytes_eq r.function_name s.function_name) e in
     ⊎_elim (λ h. h ((bytes_eq-Decides r.module_name s.module_name).0 both.0)) (λ h. h ((bytes_eq-Decides r.function_name s.function_name).0 both.1)) apart)

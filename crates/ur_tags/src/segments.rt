@@ -132,7 +132,7 @@ pub fn decode(alloc: Global, segment: &[u8]) -> Result<Option<Text>, Memory>
 }
 
 /// Whether the bytes are UTF-8.
-fn is_text(bytes: &[u8]) -> bool
+pub(crate) fn is_text(bytes: &[u8]) -> bool
     ensures { result ≡ is_utf8 bytes.now }
 {
     match str::from_utf8(bytes) {
