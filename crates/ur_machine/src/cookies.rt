@@ -43,8 +43,8 @@ fn carried_value(alloc: Global, cookie: &Cookie, pairs: &[(Text, Text)]) -> Resu
     }
 }
 
-/// The value of the first pair of this name.
-fn first_value<'a>(name: &Text, pairs: &'a [(Text, Text)]) -> Option<&'a Text>
+/// The value of the first pair of this name, if there is one.
+pub fn first_value<'a>(name: &Text, pairs: &'a [(Text, Text)]) -> Option<&'a Text>
     ensures { option_copied result ≡ first_value name.now pairs.now }
 {
     for pair in pairs {

@@ -4,4 +4,5 @@
 mod cookies;
 mod machine;
 
+pub use cookies::first_value;
 pub use machine::Machine;
