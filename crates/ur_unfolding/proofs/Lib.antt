@@ -1,0 +1,5 @@
+pub mod Making
+pub mod Building
+pub mod Going
+pub mod Working
+pub mod Steps
