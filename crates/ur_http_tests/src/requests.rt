@@ -1,5 +1,5 @@
 //! Worked requests, in pieces of every size, and the bytes of answers.
-use crate::{Item, Method, Splitter, fixed, one_list, respond};
+use ur_http::{Item, Method, Splitter, fixed, one_list, respond};
 use std::alloc::Global;
 use std::test::Fail;
 use ur_base::{List, Text};
