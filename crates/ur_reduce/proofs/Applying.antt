@@ -44,7 +44,7 @@ parts-normal (normal.Name l) e = refl
 parts-normal (normal.Fn' k _ (the c sole)) e = refl
 
 no-row : (n : Normal) (f : NormalType) (s : List Part) → as_row n ≡ [] → s ≡ [] → RowIs (fields.Small s 65535) (mapped_row f (as_row n))
-no-row n f s e h = subst (λ z. RowIs (fields.Small s 65535) (mapped_row f z)) (sym e) (h, refl)
+no-row n f s e h = subst (λ z. RowIs (fields.Small s 65535) (mapped_row f z)) (sym e) (h, refl, omega arith)
 
 pub not-empty : (b : Bool) (r : List Part) → (IsTrue b ↔ (r ≡ [])) → b ≡ false → r ≡ [] → ⊥
 not-empty b r h e k = true≢false (sym (h.1 k) ∙ e)
@@ -89,7 +89,7 @@ large-map-of-large r l o c i j e f n p q h = map-by-large f (as_row n) c p q (no
     never k = omega arith
 
 pub large-map-of-none : (r s : List Part) → r ≡ [] → s ≡ [] → (f : NormalType) → is_normal_type f ≡ true → most_nodes ≤ type_nodes f → RowIs (fields.Small s 65535) (mapped_row f r)
-large-map-of-none r s e h f p q = subst (λ z. RowIs (fields.Small s 65535) (mapped_row f z)) (sym e) (h, refl)
+large-map-of-none r s e h f p q = subst (λ z. RowIs (fields.Small s 65535) (mapped_row f z)) (sym e) (h, refl, omega arith)
 
 -- ---- both
 

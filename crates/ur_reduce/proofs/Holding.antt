@@ -1,5 +1,5 @@
 -- What is kept of a form tells what is known of it.
-use Rattle.std.proofs.Common.{◌≡◌, refl, ap, ap₂, sym, ◌∙◌, subst, ℕ, suc, ◌+◌, ◌-◌, ◌<◌, ◌≤◌, arith, Bool, true, false, List, [], Option, Some, None, Result, IfOk, IsTrue}
+use Rattle.std.proofs.Common.{◌≡◌, refl, ap, ap₂, sym, ◌∙◌, subst, ℕ, suc, ◌+◌, ◌-◌, ◌<◌, ◌≤◌, max, arith, Bool, true, false, List, [], Option, Some, None, Result, IfOk, IsTrue}
 use Rattle.std.proofs.lemmas.Result.{IfOk-weaker}
 use Rattle.ur_base.specs.declared.refusal.Memory.{Memory}
 use Rattle.ur_syntax.specs.declared.kind.Kind.{Kind}
@@ -17,6 +17,9 @@ use Rattle.ur_rows.specs.Put.{Putting, put, put_row, argument, raising, raised, 
 use Rattle.ur_rows.proofs.Order.{and-right}
 use Rattle.ur_rows.proofs.PutAfter.{mapped_row-joined}
 use Rattle.ur_rows.proofs.Shapes.{arrow-made, record-made, form-made, fn-made}
+use Rattle.ur_heights.specs.Height.{type_height, row_height, height, most_levels}
+use Rattle.ur_heights.proofs.Heights.{record-height, form-height}
+use Rattle.ur_heights.proofs.Lifting.{joined-height}
 use Rattle.ur_reduce.specs.declared.held.Large.{Large}
 use Rattle.ur_reduce.specs.declared.held.Large.TheVariants as large
 use Rattle.ur_reduce.specs.declared.held.Held.{Held}
@@ -49,6 +52,9 @@ past a b e h = omega arith
 
 fewer : (a b : ℕ) → b + a ≡ 65535 → a + 1 ≤ 65536
 fewer a b h = omega arith
+
+low : (a b : ℕ) → a ≡ b + 1 → b < 4096 → a ≤ 4096
+low a b e h = omega arith
 
 -- ---- what is too large has more nodes than a form may have
 
@@ -156,21 +162,27 @@ shape-function n c b k t i j e m s h = go m (subst (λ z. SameShape z m) (i ∙ 
 -- ---- forms
 
 pub form-type : (x n : Normal) → Holds (held.Form x) n → TypeIs (Some (as_type x)) (as_type n)
-form-type x n h = (ap as_type h.0, small n h.1) where
+form-type x n h = (ap as_type h.0, small n h.1, short n h.2) where
   small : (n : Normal) → nodes n ≤ most_nodes → type_nodes (as_type n) ≤ most_nodes
   small (normal.Type t) e = e
   small (normal.Name l) e = omega arith
   small (normal.Row r) e = omega arith
   small (normal.Fn' k _ (the c sole)) e = omega arith
 
+  short : (n : Normal) → height n ≤ most_levels → type_height (as_type n) ≤ most_levels
+  short (normal.Type t) e = e
+  short (normal.Name l) e = omega arith
+  short (normal.Row r) e = omega arith
+  short (normal.Fn' k _ (the c sole)) e = omega arith
+
 pub row-form : (s r : List Part) (left : ℕ) → RowIs (fields.Small s left) r → Holds (held.Form (normal.Row s)) (normal.Row r)
-row-form s r left h = (ap (λ z. normal.Row z) h.0, fewer (row_nodes r) left h.1)
+row-form s r left h = (ap (λ z. normal.Row z) h.0, fewer (row_nodes r) left h.1, low (row_height r + 1) (row_height r) refl h.2)
 
 pub record-form : (s r : List Part) (left : ℕ) → RowIs (fields.Small s left) r → Holds (held.Form (normal.Type (ty.Record s))) (normal.Type (record_of r))
-record-form s r left h = (ap (λ z. normal.Type (ty.Record z)) h.0 ∙ ap (λ z. normal.Type z) (record-made r), few (type_nodes (record_of r)) (row_nodes r) (record-nodes r) (fewer (row_nodes r) left h.1))
+record-form s r left h = (ap (λ z. normal.Type (ty.Record z)) h.0 ∙ ap (λ z. normal.Type z) (record-made r), few (type_nodes (record_of r)) (row_nodes r) (record-nodes r) (fewer (row_nodes r) left h.1), low (type_height (record_of r)) (row_height r) (record-height r) h.2)
 
 pub form-form : (s r : List Part) (left : ℕ) → RowIs (fields.Small s left) r → Holds (held.Form (normal.Type (ty.Form s))) (normal.Type (form_of r))
-form-form s r left h = (ap (λ z. normal.Type (ty.Form z)) h.0 ∙ ap (λ z. normal.Type z) (form-made r), few (type_nodes (form_of r)) (row_nodes r) (form-nodes r) (fewer (row_nodes r) left h.1))
+form-form s r left h = (ap (λ z. normal.Type (ty.Form z)) h.0 ∙ ap (λ z. normal.Type z) (form-made r), few (type_nodes (form_of r)) (row_nodes r) (form-nodes r) (fewer (row_nodes r) left h.1), low (type_height (form_of r)) (row_height r) (form-height r) h.2)
 
 pub record-large : (r : List Part) (o : Option (List Part)) → RowIs (fields.Large o) r → Means large.Type (normal.Type (record_of r))
 record-large r o h = one-more (type_nodes (record_of r)) (row_nodes r) (record-nodes r) h.0
@@ -193,8 +205,11 @@ arrow-right b s t i h = more (type_nodes s) (type_nodes t) (subst (λ z. TypeIs 
 pub arrow-is : (a b : Option NormalType) (x y u v s t : NormalType) → a ≡ Some x → b ≡ Some y → u ≡ x → v ≡ y → TypeIs a s → TypeIs b t → ty.Arrow u v ≡ arrow_of s t
 arrow-is a b x y u v s t i j e f h k = ap₂ (λ p q. ty.Arrow p q) (e ∙ (subst (λ z. TypeIs z s) i h).0) (f ∙ (subst (λ z. TypeIs z t) j k).0) ∙ arrow-made s t
 
-pub arrow-small : (u t : NormalType) (left : ℕ) → u ≡ t → left + type_nodes u ≡ 65536 → Holds (held.Form (normal.Type u)) (normal.Type t)
-arrow-small u t left e h = (ap (λ z. normal.Type z) e, go (type_nodes u) (type_nodes t) (ap type_nodes e) h) where
+pub arrow-small : (u t : NormalType) (left high : ℕ) → u ≡ t → left + type_nodes u ≡ 65536 → (high ≡ type_height u) × (high ≤ 4096) → Holds (held.Form (normal.Type u)) (normal.Type t)
+arrow-small u t left high e h k = (ap (λ z. normal.Type z) e, go (type_nodes u) (type_nodes t) (ap type_nodes e) h, short (type_height u) (type_height t) (ap type_height e) k.0 k.1) where
+  short : (a b : ℕ) → a ≡ b → high ≡ a → high ≤ 4096 → b ≤ 4096
+  short a b e g h = omega arith
+
   go : (a b : ℕ) → a ≡ b → left + a ≡ 65536 → b ≤ 65536
   go a b e h = omega arith
 
@@ -204,7 +219,10 @@ pub both-outlines : (left right : Option (List Part)) (l m x r s : List Part) �
 both-outlines left right l m x r s i j e h k = e ∙ ap₂ joined (subst (λ z. Outlines z r) i h) (subst (λ z. Outlines z s) j k) ∙ sym (mapped_row-joined unit r s)
 
 pub union-small : (r s x p q : List Part) (a b sum : ℕ) → sum ≡ a + b → 65535 ≤ sum → x ≡ joined r s → RowIs (fields.Small r a) p → RowIs (fields.Small s b) q → RowIs (fields.Small x (sum - 65535)) (joined p q)
-union-small r s x p q a b sum e l i h k = (i ∙ ap₂ joined h.0 k.0, count (row_nodes p) (row_nodes q) (row_nodes (joined p q)) (joined-nodes p q) h.1 k.1) where
+union-small r s x p q a b sum e l i h k = (i ∙ ap₂ joined h.0 k.0, count (row_nodes p) (row_nodes q) (row_nodes (joined p q)) (joined-nodes p q) h.1 k.1, highest (row_height p) (row_height q) (row_height (joined p q)) (joined-height p q) h.2 k.2) where
+  highest : (m n w : ℕ) → w ≡ max m n → m < 4096 → n < 4096 → w < 4096
+  highest m n w f g j = omega arith
+
   count : (m n w : ℕ) → w ≡ m + n → a + m ≡ 65535 → b + n ≡ 65535 → sum - 65535 + w ≡ 65535
   count m n w f g j = omega arith
 
@@ -284,7 +302,7 @@ map-by-large f r o n h k m = map-over f r o (past (type_nodes f) (row_nodes (map
 
 -- ---- what is held, told from what the code matches
 
-pub held-form : (h : Held) (x n : Normal) → h ≡ held.Form x → Holds h n → (x ≡ n) × (nodes n ≤ most_nodes)
+pub held-form : (h : Held) (x n : Normal) → h ≡ held.Form x → Holds h n → (x ≡ n) × (nodes n ≤ most_nodes) × (height n ≤ most_levels)
 held-form h x n i k = subst (λ z. Holds z n) i k
 
 pub held-large : (h : Held) (l : Large) (n : Normal) → h ≡ held.Large l → Holds h n → Means l n

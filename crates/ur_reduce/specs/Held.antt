@@ -1,4 +1,4 @@
--- What is kept of a normal form that may have too many nodes.
+-- What is kept of a normal form that may have too many nodes. A form that is kept is no higher than a form may be.
 use Rattle.std.specs.Prelude.{◌≡◌, ◌+◌, ◌<◌, ◌≤◌, List, Option, Some, None}
 use Rattle.ur_rows.specs.declared.normal.NormalType.{NormalType}
 use Rattle.ur_rows.specs.declared.normal.Part.{Part}
@@ -9,6 +9,7 @@ use Rattle.ur_rows.specs.Made.{unit}
 use Rattle.ur_rows.specs.Nodes.{type_nodes, row_nodes, nodes, most_nodes}
 use Rattle.ur_rows.specs.Put.{as_type, as_row, mapped_row}
 use Rattle.ur_rows.specs.Normal.{as_function}
+use Rattle.ur_heights.specs.Height.{type_height, row_height, height, most_levels}
 use Rattle.ur_reduce.specs.declared.held.Large.{Large}
 use Rattle.ur_reduce.specs.declared.held.Large.TheVariants as large
 use Rattle.ur_reduce.specs.declared.held.Held.{Held}
@@ -28,18 +29,18 @@ Means (large.Row o) n = (most_nodes ≤ row_nodes (as_row n)) × Outlines o (as_
 Means large.TypeFunction n = most_nodes ≤ type_nodes (as_function n)
 Means large.Function n = most_nodes < nodes n
 
--- the form, or that it is too large
+-- the form, which is neither too large nor too high, or that it is too large
 abbrev pub Holds : Held → Normal → Type 0
-Holds (held.Form x) n = (x ≡ n) × (nodes n ≤ most_nodes)
+Holds (held.Form x) n = (x ≡ n) × (nodes n ≤ most_nodes) × (height n ≤ most_levels)
 Holds (held.Large l) n = Means l n
 
 -- the same for types and rows
 abbrev pub TypeIs : Option NormalType → NormalType → Type 0
-TypeIs (Some x) t = (x ≡ t) × (type_nodes t ≤ most_nodes)
+TypeIs (Some x) t = (x ≡ t) × (type_nodes t ≤ most_nodes) × (type_height t ≤ most_levels)
 TypeIs None t = most_nodes < type_nodes t
 
 abbrev pub RowIs : Fields → List Part → Type 0
-RowIs (fields.Small s left) r = (s ≡ r) × (left + row_nodes r ≡ 65535)
+RowIs (fields.Small s left) r = (s ≡ r) × (left + row_nodes r ≡ 65535) × (row_height r < most_levels)
 RowIs (fields.Large o) r = (most_nodes ≤ row_nodes r) × Outlines o r
 
 -- forms of the same kind

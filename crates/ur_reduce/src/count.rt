@@ -2,11 +2,13 @@
 ghost use Rattle.std.specs.Prelude.{◌≡◌, ◌+◌, ◌<◌, ◌≤◌, suc, IfOk, Err};
 ghost use Rattle.ur_rows.specs.Nodes.{type_nodes, part_nodes, row_nodes, nodes, most_nodes};
 ghost use Rattle.ur_rows.specs.Put.{Putting, put, put_type, put_part, put_row, mapped_part, mapped_row, applied_once};
+ghost use Rattle.ur_heights.specs.Height.{height, most_levels};
 ghost use Rattle.ur_reduce.specs.declared.count.Halt.TheVariants as halt;
 ghost use Rattle.ur_reduce.specs.Mapping.{Drops, mapped_nodes};
 
 use std::alloc::Global;
 use ur_base::{List, Memory};
+use ur_heights::applied_is_low;
 use ur_rows::{
     Argument, Normal, NormalType, Part, Puts, Raising, TypeAt, Var, applied_once, composed,
     is_identity, left_of_row, left_of_type, put_type, unit,
@@ -307,14 +309,17 @@ pub fn left_after_normal<P: Measured>(
     }
 }
 
-/// A function applied to one argument, where the result has no more than the greatest number of nodes.
+/// A function applied to one argument, where the result has no more than the greatest number of nodes. There is no memory
+/// for one that is too high.
 pub fn applied_within(alloc: Global, f: &Normal, a: &Normal) -> Result<Normal, Halt>
     ensures form { IfOk result (λ n. n ≡ applied_once f.now a.now) }
     ensures small { IfOk result (λ n. nodes n ≤ most_nodes) }
+    ensures low { IfOk result (λ n. height n ≤ most_levels) }
     ensures over { result ≡ Err halt.TooLarge → most_nodes < nodes (applied_once f.now a.now) }
 {
     match f {
         Normal::Fn(_, c) => {
+            applied_is_low(f, a)?;
             left_after_normal(alloc, &Argument { of: a }, 0, c.get(), 65536)?;
             Ok(applied_once(alloc, f, a)?)
         }

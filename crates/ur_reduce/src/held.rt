@@ -15,6 +15,7 @@ ghost use Rattle.ur_reduce.specs.Held.{Means, Holds, TypeIs, RowIs, Outlines, Sa
 use crate::place::merged;
 use std::alloc::Global;
 use ur_base::{List, Memory};
+use ur_heights::{height, row_height, type_height};
 use ur_rows::{
     Normal, NormalType, Part, Raising, as_row, as_type, boxed, is_within, left_of_row,
     left_of_type, mapped_row, put_row, raised, unit,
@@ -87,10 +88,11 @@ pub fn shape(n: &Normal) -> Large
     }
 }
 
-/// The form, where it is not too large.
+/// The form, where it is not too large. There is no memory for one that is too high.
 pub fn measured(alloc: Global, n: Normal) -> Result<Held, Memory>
     ensures { IfOk result (λ h. Holds h n) }
 {
+    height(&n, 4096)?;
     if is_within(&n) {
         return Ok(Held::Form(n));
     }
@@ -100,10 +102,11 @@ pub fn measured(alloc: Global, n: Normal) -> Result<Held, Memory>
     }
 }
 
-/// The row, where it is not too large.
+/// The row, where it is not too large. There is no memory for one that is too high.
 pub fn sized(alloc: Global, r: List<Part>) -> Result<Fields, Memory>
     ensures { IfOk result (λ f. RowIs f r) }
 {
+    row_height(&r, 4095)?;
     match left_of_row(&r, 65535) {
         Some(left) => Ok(Fields::Small(r, left)),
         None => Ok(Fields::Large(outline(alloc, &r)?)),
@@ -170,7 +173,7 @@ pub fn form_of(f: Fields) -> Held
     }
 }
 
-/// An arrow of types.
+/// An arrow of types. There is no memory for one that is too high.
 pub fn arrow(alloc: Global, a: Option<NormalType>, b: Option<NormalType>) -> Result<Held, Memory>
     ensures { IfOk result (λ h. (s t : GhostType) → TypeIs a s → TypeIs b t → Holds h (normal.Type (arrow_of s t))) }
 {
@@ -182,6 +185,7 @@ pub fn arrow(alloc: Global, a: Option<NormalType>, b: Option<NormalType>) -> Res
                 let s = boxed(alloc, s)?;
                 let t = boxed(alloc, t)?;
                 let form = NormalType::Arrow(s, t);
+                type_height(&form, 4096)?;
                 match left_of_type(&form, 65536) {
                     Some(_) => Ok(Held::Form(Normal::Type(form))),
                     None => Ok(Held::Large(Large::Type)),

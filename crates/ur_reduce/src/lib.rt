@@ -9,6 +9,9 @@ mod maps;
 mod occurs;
 mod place;
 
+pub use count::{
+    Halt, Measured, left_after_normal, left_after_row, left_after_type, left_of_mapped_row,
+};
 pub use given::{Args, applied};
 pub use held::{
     Fields, Held, Large, arrow, fields_of, form_of, measured, outline, raised_held, record_of,

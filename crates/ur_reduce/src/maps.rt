@@ -15,6 +15,7 @@ use crate::held::{Fields, Held, Large, outline};
 use crate::occurs::{holds_type, uses_type};
 use std::alloc::Global;
 use ur_base::{List, Memory};
+use ur_heights::mapped_is_low;
 use ur_rows::{Normal, NormalType, Part, copy_row, mapped_row, unit};
 
 /// The body of a function of types.
@@ -34,10 +35,11 @@ fn body_of(f: &Normal) -> Option<&NormalType>
     }
 }
 
-/// `map f r` of a row.
+/// `map f r` of a row. There is no memory for one that is too high.
 fn mapped_small(alloc: Global, f: &NormalType, r: &List<Part>) -> Result<Fields, Memory>
     ensures { IfOk result (λ m. RowIs m (mapped_row f.now r.now)) }
 {
+    mapped_is_low(f, r, 4095)?;
     match left_of_mapped_row(alloc, f, r, 65535) {
         Ok(left) => Ok(Fields::Small(mapped_row(alloc, f, r)?, left)),
         Err(halt) => match halt {

@@ -1,6 +1,7 @@
-use Rattle.std.proofs.Common.{ap, arith}
+use Rattle.std.proofs.Common.{ap, sym, subst, ◌≤◌, arith}
 use Rattle.std.proofs.lemmas.Grind.{common_steps}
 use Rattle.ur_rows.specs.Nodes.{nodes}
+use Rattle.ur_heights.specs.Height.{height, most_levels}
 use Rattle.ur_reduce.proofs.After.{once-whole}
 use Rattle.ur_reduce.proofs.count.applied_within.Goals as goal
 
@@ -13,3 +14,6 @@ returns-in_ok-applied_once-in-Fn-clause-small c =
     let e = once-whole c.args.f.now c.args.a.now c.in-Fn.c c.get.result.now c.in-Fn.field-0 c.in-Fn.is c.get.ensures in
     let h = ap nodes c.in_ok-applied_once-in-Fn.ensures in
     let k = c.in_ok-left_after_normal-in-Fn.ensures.fits in omega arith
+
+pub returns-in_ok-applied_once-in-Fn-clause-low : goal.returns-in_ok-applied_once-in-Fn-clause-low
+returns-in_ok-applied_once-in-Fn-clause-low c = subst (λ z. height z ≤ most_levels) (sym c.in_ok-applied_once-in-Fn.ensures) c.in_ok-applied_is_low-in-Fn.ensures
