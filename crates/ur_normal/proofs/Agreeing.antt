@@ -1,10 +1,8 @@
 -- What is kept of names tells of what these stand for.
-use Rattle.std.proofs.Common.{◌≡◌, refl, ap, ap₂, sym, ◌∙◌, subst, ℕ, zero, suc, ◌+◌, ◌-◌, ◌<◌, arith, Bool, true, false, ◌⊎◌, inl, inr, if◌then◌else◌, List, [], ◌∷◌, ◌++◌, length, drop, get_or, Option, Some, None, bytes_eq}
-use Rattle.std.proofs.lemmas.Bool.{cases_Bool}
+use Rattle.std.proofs.Common.{◌≡◌, refl, ap, sym, ◌∙◌, subst, ℕ, ◌+◌, ◌<◌, Bool, true, false, if◌then◌else◌, List, [], ◌∷◌, ◌++◌, length, drop, get_or, Option, Some, None, bytes_eq}
 use Rattle.std.proofs.lemmas.List.{drop_more}
 use Rattle.ur_syntax.specs.declared.con.Con.{Con}
 use Rattle.ur_syntax.specs.declared.con.ConName.{ConName}
-use Rattle.ur_syntax.specs.declared.con.ConMeaning.{ConMeaning}
 use Rattle.ur_syntax.specs.declared.con.ConMeaning.TheVariants as meaning
 use Rattle.ur_syntax.specs.declared.con.ConEntry.{ConEntry}
 use Rattle.ur_syntax.specs.declared.con.ConEnv.{ConEnv}

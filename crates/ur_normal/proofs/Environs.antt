@@ -1,5 +1,5 @@
 -- What the entries of an environment stand for, and the constructor that is read in it.
-use Rattle.std.proofs.Common.{◌≡◌, refl, ap, ap₂, sym, ◌∙◌, subst, ℕ, ◌<◌, ◌≤◌, arith, true, List, [], ◌∷◌, Option, Some, None, Result, IfOk}
+use Rattle.std.proofs.Common.{◌≡◌, refl, sym, subst, ℕ, arith, true, List, [], Option, Result, IfOk}
 use Rattle.std.proofs.lemmas.Result.{IfOk-weaker}
 use Rattle.ur_base.specs.declared.refusal.Memory.{Memory}
 use Rattle.ur_syntax.specs.declared.kind.Kind.{Kind}
@@ -14,8 +14,7 @@ use Rattle.ur_rows.specs.declared.normal.NormalType.TheVariants as ty
 use Rattle.ur_rows.specs.declared.normal.Normal.{Normal}
 use Rattle.ur_rows.specs.declared.normal.Normal.TheVariants as normal
 use Rattle.ur_rows.specs.IsNormal.{is_normal}
-use Rattle.ur_rows.specs.Nodes.{nodes, most_nodes}
-use Rattle.ur_rows.specs.Normal.{Known, known_in, variable, at_home, entry_form, nf_with, nf}
+use Rattle.ur_rows.specs.Normal.{Known, variable, at_home, entry_form, nf_with, nf}
 use Rattle.ur_rows.proofs.InOrder.{nf_with-normal}
 use Rattle.ur_reduce.specs.declared.held.Held.{Held}
 use Rattle.ur_reduce.specs.declared.held.Held.TheVariants as held
@@ -38,7 +37,7 @@ pub stands-variable : (home : List ℕ) (known : List Entry) (n : ℕ) (e : ConE
 stands-variable home known n e v i j names a = subst (λ z. Holds (held.Form v) (entry_form (known_so home names) n e.name.home e.kind z)) (sym i) (variable-holds e.kind (var.Free n) v j)
 
 pub stands-datatype : (home : List ℕ) (known : List Entry) (n d : ℕ) (e : ConEntry) → e.meaning ≡ meaning.Datatype d → Stands home known n e (held.Form (normal.Type (ty.Datatype d)))
-stands-datatype home known n d e i names a = subst (λ z. Holds (held.Form (normal.Type (ty.Datatype d))) (entry_form (known_so home names) n e.name.home e.kind z)) (sym i) (refl, omega arith)
+stands-datatype home known n d e i names a = subst (λ z. Holds (held.Form (normal.Type (ty.Datatype d))) (entry_form (known_so home names) n e.name.home e.kind z)) (sym i) (refl, omega arith, omega arith)
 
 pub scope-tells : (s : Scope) (known : List Entry) (g : List ℕ) (names : List (ConName × (ℕ × Normal))) → s.home.now ≡ g → s.depth ≡ 0 → names_of s.names.now ≡ declared known [] → Agrees (declared known []) names → Tells s (known_so g names)
 scope-tells s known g names e f h a = record { home = e; depth = f; names = subst (λ z. Agrees z names) (sym h) a }

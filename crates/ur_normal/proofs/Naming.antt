@@ -1,6 +1,5 @@
 -- Names applied to arguments, and the names of fields.
-use Rattle.std.proofs.Common.{◌≡◌, refl, ap, ap₂, sym, ◌∙◌, subst, ℕ, ◌-◌, ◌<◌, ◌≤◌, arith, Bool, true, false, ◌⊎◌, inl, inr, if◌then◌else◌, List, [], ◌∷◌, Option, Some, None, Result, IfOk, bytes_eq, codes, rules}
-use Rattle.std.proofs.lemmas.Bool.{cases_Bool}
+use Rattle.std.proofs.Common.{◌≡◌, refl, ap, ap₂, sym, ◌∙◌, subst, ℕ, ◌-◌, Bool, true, false, if◌then◌else◌, List, [], Option, Some, None, Result, IfOk, bytes_eq, codes, rules}
 use Rattle.std.proofs.lemmas.Result.{IfOk-weaker}
 use Rattle.ur_base.specs.declared.refusal.Memory.{Memory}
 use Rattle.ur_syntax.specs.declared.con.ConName.{ConName}
@@ -10,7 +9,6 @@ use Rattle.ur_syntax.specs.Names.{own, seen}
 use Rattle.ur_rows.specs.declared.normal.Label.{Label}
 use Rattle.ur_rows.specs.declared.normal.Label.TheVariants as label
 use Rattle.ur_rows.specs.declared.normal.Normal.{Normal}
-use Rattle.ur_rows.specs.declared.normal.Normal.TheVariants as normal
 use Rattle.ur_rows.specs.IsNormal.{is_normal}
 use Rattle.ur_rows.specs.Put.{as_label, raised, applied}
 use Rattle.ur_rows.specs.Normal.{Known, or_raised, known_as, label_of, map_of, xml_of, word, word_with, name_with}

@@ -1,5 +1,5 @@
 -- The steps of the walk over constructors.
-use Rattle.std.proofs.Common.{◌≡◌, refl, ap, ap₂, sym, ◌∙◌, subst, ℕ, zero, suc, ◌+◌, ◌-◌, ◌<◌, ◌≤◌, arith, true, List, [], ◌∷◌, ◌++◌, length, take, get_or, Option, Some, None, Result, IfOk, Bor}
+use Rattle.std.proofs.Common.{◌≡◌, refl, ap, sym, ◌∙◌, subst, ℕ, suc, ◌+◌, ◌<◌, ◌≤◌, arith, true, List, [], ◌∷◌, ◌++◌, length, take, get_or, Option, Some, Result, IfOk, Bor}
 use Rattle.std.specs.Prelude.{map}
 use Rattle.std.proofs.lemmas.Result.{IfOk-weaker}
 use Rattle.std.proofs.lemmas.List.{take_all}
@@ -11,7 +11,6 @@ use Rattle.ur_syntax.specs.declared.con.ConForm.{ConForm}
 use Rattle.ur_syntax.specs.declared.con.ConForm.TheVariants as con
 use Rattle.ur_syntax.specs.declared.con.CField.{CField}
 use Rattle.ur_syntax.specs.declared.con.CField.TheVariants as con_field
-use Rattle.ur_syntax.specs.declared.con.CField.TheBlock as X
 use Rattle.ur_syntax.specs.declared.con.FieldName.{FieldName}
 use Rattle.ur_syntax.specs.declared.con.RecordField.{RecordField}
 use Rattle.ur_syntax.specs.Forms.{fn_con}
@@ -26,7 +25,8 @@ use Rattle.ur_rows.specs.declared.normal.Normal.TheVariants as normal
 use Rattle.ur_rows.specs.declared.normal.Normal.TheBlock.{end_of-Normal as sole, more_of-Normal as the}
 use Rattle.ur_rows.specs.Made.{arrow_of, field, record_of, unit}
 use Rattle.ur_rows.specs.IsNormal.{is_normal}
-use Rattle.ur_rows.specs.Nodes.{type_nodes, nodes, most_nodes}
+use Rattle.ur_rows.specs.Nodes.{nodes, most_nodes}
+use Rattle.ur_heights.specs.Height.{height, most_levels}
 use Rattle.ur_rows.specs.Order.{joined}
 use Rattle.ur_rows.specs.Put.{as_type, as_row}
 use Rattle.ur_rows.specs.Normal.{Known, label_of, variable, within, with_argument, name_with, known_as, nf_with, nf_field}
@@ -36,7 +36,6 @@ use Rattle.ur_reduce.specs.declared.held.Held.TheVariants as held
 use Rattle.ur_reduce.specs.declared.held.Fields.{Fields}
 use Rattle.ur_normal.specs.declared.fields.Listed.{Listed}
 use Rattle.ur_normal.specs.declared.fields.Listed.TheVariants as listed
-use Rattle.ur_normal.specs.declared.names.Names.{Names}
 use Rattle.ur_normal.specs.declared.names.Scope.{Scope}
 use Rattle.ur_reduce.specs.declared.given.Args.{Args}
 use Rattle.ur_reduce.specs.declared.given.Args.TheVariants as args
@@ -125,6 +124,12 @@ variable-small kind.Name v = omega arith
 variable-small kind.Row v = omega arith
 variable-small (kind.Arrow' _ x _ y) v = omega arith
 
+variable-low : (k : Kind) (v : Var) → height (variable k v) ≤ most_levels
+variable-low kind.Star v = omega arith
+variable-low kind.Name v = omega arith
+variable-low kind.Row v = omega arith
+variable-low (kind.Arrow' _ x _ y) v = omega arith
+
 pub variable-normal : (k : Kind) (v : Var) → is_normal (variable k v) ≡ true
 variable-normal kind.Star v = refl
 variable-normal kind.Name v = refl
@@ -132,7 +137,7 @@ variable-normal kind.Row v = refl
 variable-normal (kind.Arrow' _ x _ y) v = refl
 
 pub variable-holds : (k : Kind) (v : Var) (n : Normal) → n ≡ variable k v → Holds (held.Form n) (variable k v)
-variable-holds k v n e = (e, variable-small k v)
+variable-holds k v n e = (e, variable-small k v, variable-low k v)
 
 pub inner-tells : (s inner : Scope) (x : List ℕ) (k : Kind) (d : ℕ) (n : Normal) (known : Known) → inner.home.now ≡ s.home.now → inner.depth ≡ d → d ≡ suc s.depth →
     names_of inner.names.now ≡ (own x, (d, held.Form n)) ∷ names_of s.names.now → n ≡ variable k (var.Bound 0) → Tells s known → Tells inner (within x k known)
@@ -162,7 +167,7 @@ argument-walks r s inner x b a hs e f h w = IfOk-weaker r _ _ (λ g p known n ns
 -- ---- fields
 
 unit-is : TypeIs (Some unit) unit
-unit-is = (refl, omega arith)
+unit-is = (refl, omega arith, omega arith)
 
 pub bare-walks : (r : Result Listed Memory) (s : Scope) (f : CField) (x : FieldName) (l : Label) (t : NormalType) (row : Listed) → f ≡ con_field.Bare x → t ≡ unit → ((known : Known) → Tells s known → l ≡ label_of known x) →
     IfOk r (λ w. (p : List Part) (u : NormalType) → ListedAs row p → TypeIs (Some t) u → ListedAs w (p ++ field l u ∷ [])) →
@@ -192,7 +197,7 @@ abbrev pub Collects : {F : Type 0} → (Known → F → Part) → Scope → List
 Collects part s row fs i = (known : Known) → Tells s known → ListedAs row (map (part known) (take i fs))
 
 pub collects-none : {F : Type 0} (part : Known → F → Part) (s : Scope) (n : List Part) (fs : List F) → n ≡ [] → Collects part s (listed.Small n 65535) fs 0
-collects-none part s n fs e = λ known w. (e, refl)
+collects-none part s n fs e = λ known w. (e, refl, omega arith)
 
 pub collects-more : {F : Type 0} (part : Known → F → Part) (s : Scope) (row more : Listed) (fs : List F) (i : ℕ) (f : F) → Collects part s row fs i → i < length fs → f ≡ get_or fs i f →
     ((known : Known) (p : List Part) → Tells s known → ListedAs row p → ListedAs more (p ++ part known f ∷ [])) → Collects part s more fs (i + 1)

@@ -17,7 +17,7 @@ use Rattle.ur_reduce.specs.Held.{Holds, RowIs}
 use Rattle.ur_reduce.specs.Arguments.{Given, args_of}
 
 no-row-of-nodes : (r : List Part) → r ≡ [] → Holds (held.Form (normal.Row r)) (normal.Row [])
-no-row-of-nodes r e = (ap (λ z. normal.Row z) e, omega arith)
+no-row-of-nodes r e = (ap (λ z. normal.Row z) e, omega arith, omega arith)
 
 pub map-none : (given : Args) (r : List Part) → given ≡ args.Empty → r ≡ [] → (ns : List Normal) → Given (args_of given) ns → Holds (held.Form (normal.Row r)) (map_of ns)
 map-none given r i e ns g = go ns (subst (λ z. Given (args_of z) ns) i g) where
@@ -54,7 +54,7 @@ map-more given f r x rest last end s i j k e ns g =
       go (m ∷ n ∷ o ∷ ms) g = no-row-of-nodes s e
 
 unit-holds : (t : NormalType) → t ≡ unit → Holds (held.Form (normal.Type t)) (normal.Type unit)
-unit-holds t e = (ap (λ z. normal.Type z) e, omega arith)
+unit-holds t e = (ap (λ z. normal.Type z) e, omega arith, omega arith)
 
 pub xml-none : (given : Args) (t : NormalType) → given ≡ args.Empty → t ≡ unit → (ns : List Normal) → Given (args_of given) ns → Holds (held.Form (normal.Type t)) (xml_of ns)
 xml-none given t i e ns g = go ns (subst (λ z. Given (args_of z) ns) i g) where

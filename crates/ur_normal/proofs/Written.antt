@@ -1,8 +1,7 @@
 -- The equations of the normal form at the constructors that code matches.
-use Rattle.std.proofs.Common.{◌≡◌, refl, ap, sym, ◌∙◌, ℕ, List, [], ◌∷◌}
+use Rattle.std.proofs.Common.{◌≡◌, refl, ap, ℕ, List, [], ◌∷◌}
 use Rattle.ur_syntax.specs.declared.kind.Kind.{Kind}
 use Rattle.ur_syntax.specs.declared.con.Con.{Con}
-use Rattle.ur_syntax.specs.declared.con.ConForm.{ConForm}
 use Rattle.ur_syntax.specs.declared.con.ConForm.TheVariants as con
 use Rattle.ur_syntax.specs.declared.con.CField.{CField}
 use Rattle.ur_syntax.specs.declared.con.RecordField.{RecordField}

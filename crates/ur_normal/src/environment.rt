@@ -5,6 +5,7 @@ ghost use Rattle.ur_syntax.specs.declared.con.ConName.{ConName as GhostName};
 ghost use Rattle.ur_rows.specs.declared.normal.Normal.{Normal as GhostNormal};
 ghost use Rattle.ur_rows.specs.Nodes.{nodes, most_nodes};
 ghost use Rattle.ur_rows.specs.Normal.{nf, entry_form, variables_with};
+ghost use Rattle.ur_heights.specs.Height.{height, most_levels};
 ghost use Rattle.ur_reduce.specs.Held.{Holds};
 ghost use Rattle.ur_normal.specs.Walk.{Agrees, IsKnown, declared, known_so, home_in};
 
@@ -124,12 +125,15 @@ fn too_large(alloc: Global, span: Span) -> Result<Refusal, Memory>
     })
 }
 
-/// The normal form of a constructor, in which definition names stand for their right sides. The refusal E16 comes exactly
-/// where that form has more than 65,536 nodes. Forms with more nodes are not kept on the way: there is want of memory for a
+/// The normal form of a constructor, in which definition names stand for their right sides. The refusal E16 comes only where
+/// that form has more than 65,536 nodes. Forms with more nodes are not kept on the way: there is want of memory for a
 /// function with too many nodes that is applied, and for an argument with too many nodes that a function uses in maps alone.
+/// There is want of memory for a form of more than 4,096 levels too, of the whole or on the way, where a function that is
+/// mapped over a row counts with the row's highest part.
 pub fn normal(alloc: Global, env: &ConEnv, con: &Con) -> Result<Normal, Stop>
     ensures form { IfOk result (λ n. n ≡ nf env.now con.now) }
     ensures small { IfOk result (λ n. nodes n ≤ most_nodes) }
+    ensures low { IfOk result (λ n. height n ≤ most_levels) }
     ensures refused { IfRefused result (λ r. Says r 16 (codes "65537") (codes "65536") × (most_nodes < nodes (nf env.now con.now))) }
 {
     let held = held_in(alloc, env, con)?;

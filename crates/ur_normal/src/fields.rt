@@ -10,6 +10,7 @@ ghost use Rattle.ur_normal.specs.Listed.{ListedAs};
 
 use std::alloc::Global;
 use ur_base::{List, Memory};
+use ur_heights::type_height;
 use ur_reduce::{Fields, merged, outline};
 use ur_rows::{Label, NormalType, Part, boxed, left_of_type, unit};
 
@@ -45,7 +46,7 @@ fn with_field(
     Ok(parts)
 }
 
-/// One field more, behind the others.
+/// One field more, behind the others. There is no memory for one that is too high.
 pub fn one_more(
     alloc: Global,
     fields: Listed,
@@ -56,10 +57,13 @@ pub fn one_more(
 {
     match fields {
         Listed::Small(parts, left) => match t {
-            Some(t) => match left_after(&t, left) {
-                Some(rest) => Ok(Listed::Small(with_field(alloc, parts, label, t)?, rest)),
-                None => Ok(Listed::Large(with_field(alloc, parts, label, unit(alloc))?)),
-            },
+            Some(t) => {
+                type_height(&t, 4094)?;
+                match left_after(&t, left) {
+                    Some(rest) => Ok(Listed::Small(with_field(alloc, parts, label, t)?, rest)),
+                    None => Ok(Listed::Large(with_field(alloc, parts, label, unit(alloc))?)),
+                }
+            }
             None => Ok(Listed::Large(with_field(alloc, parts, label, unit(alloc))?)),
         },
         Listed::Large(parts) => Ok(Listed::Large(with_field(alloc, parts, label, unit(alloc))?)),

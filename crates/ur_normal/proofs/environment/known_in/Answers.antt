@@ -1,5 +1,5 @@
-use Rattle.std.proofs.Common.{refl, ap, drop, drop_of_length-le}
-use Rattle.ur_normal.proofs.Agreeing.{known-start, known-step, known-whole}
+use Rattle.std.proofs.Common.{drop, drop_of_length-le}
+use Rattle.ur_normal.proofs.Agreeing.{known-step, known-whole}
 use Rattle.ur_normal.specs.Walk.{known_so}
 use Rattle.ur_normal.proofs.Environs.{entry-normal}
 use Rattle.ur_normal.proofs.environment.known_in.Goals as goal

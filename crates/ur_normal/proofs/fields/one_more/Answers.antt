@@ -5,7 +5,7 @@ use Rattle.ur_normal.proofs.Listing.{listed-fits, listed-over, listed-none, list
 use Rattle.ur_normal.proofs.fields.one_more.Goals as goal
 
 pub returns-in_ok-with_field-in-Some-left_after : goal.returns-in_ok-with_field-in-Some-left_after
-returns-in_ok-with_field-in-Some-left_after c = λ r u h k. listed-fits c.in-Small.parts r c.in_ok-with_field-in-Some-left_after.field-0 c.in-Small.left c.in-Some-left_after.rest c.args.label c.in-Some.t u c.in-Some-left_after.ensures c.in_ok-with_field-in-Some-left_after.ensures (subst (λ z. ListedAs z r) c.in-Small.is h) (subst (λ z. TypeIs z u) c.in-Some.is k)
+returns-in_ok-with_field-in-Some-left_after c = λ r u h k. listed-fits c.in-Small.parts r c.in_ok-with_field-in-Some-left_after.field-0 c.in-Small.left c.in-Some-left_after.rest c.in_ok-type_height-in-Some.field-0 c.args.label c.in-Some.t u c.in-Some-left_after.ensures c.in_ok-with_field-in-Some-left_after.ensures c.in_ok-type_height-in-Some.ensures (subst (λ z. ListedAs z r) c.in-Small.is h) (subst (λ z. TypeIs z u) c.in-Some.is k)
 
 pub returns-in_ok-with_field-in-None-left_after : goal.returns-in_ok-with_field-in-None-left_after
 returns-in_ok-with_field-in-None-left_after c = λ r u h k. listed-over c.in-Small.parts r c.in_ok-with_field-in-None-left_after.field-0 c.in-Small.left c.args.label c.in-Some.t _ u c.in-None-left_after.ensures c.in_ok-with_field-in-None-left_after.ensures (subst (λ z. ListedAs z r) c.in-Small.is h) (subst (λ z. TypeIs z u) c.in-Some.is k)

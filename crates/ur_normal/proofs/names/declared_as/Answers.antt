@@ -1,4 +1,4 @@
-use Rattle.std.proofs.Common.{refl, ◌-◌, length}
+use Rattle.std.proofs.Common.{refl, length}
 use Rattle.ur_normal.specs.Walk.{key_of}
 use Rattle.ur_normal.proofs.Standing.{found-here, passed-here}
 use Rattle.ur_normal.proofs.names.declared_as.Goals as goal

@@ -3,7 +3,7 @@ use Rattle.ur_syntax.specs.declared.con.ConForm.TheVariants as con
 use Rattle.ur_rows.specs.Normal.{nf_field}
 use Rattle.ur_reduce.specs.Arguments.{args_of}
 use Rattle.ur_normal.specs.Walk.{record_part}
-use Rattle.ur_normal.proofs.Walked.{arrow-walks, concat-walks, app-walks, function-walks, given-walks, name-walks, member-walks, row-walks, record-walks, dollar-walks, type-walks, fields-walks, inner-tells, body-walks, argument-walks, bare-walks, field-walks, record-field-walks, collects-none, collects-more, collects-all}
+use Rattle.ur_normal.proofs.Walked.{arrow-walks, concat-walks, app-walks, function-walks, given-walks, row-walks, record-walks, dollar-walks, type-walks, fields-walks, inner-tells, body-walks, argument-walks, bare-walks, field-walks, record-field-walks, collects-more, collects-all}
 use Rattle.ur_normal.proofs.walk.+walking.Goals as goal
 
 pub walk-returns-in-Empty : goal.walk-returns-in-Empty

@@ -1,4 +1,4 @@
-use Rattle.std.proofs.Common.{◌≡◌, ap, sym, ◌∙◌, bytes_eq, codes, true, false}
+use Rattle.std.proofs.Common.{◌≡◌, sym, ◌∙◌, bytes_eq, codes, true, false}
 use Rattle.ur_normal.proofs.Standing.{form-empty}
 use Rattle.ur_normal.proofs.words.later_word.Goals as goal
 
