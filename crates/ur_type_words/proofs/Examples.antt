@@ -1,5 +1,5 @@
 -- Small types as they are written, the row of a query, and what may stand where.
-use Rattle.std.proofs.Common.{◌≡◌, refl, ℕ, List, [], ◌∷◌, Some, None}
+use Rattle.std.proofs.Common.{◌≡◌, refl, [], ◌∷◌, Some, None}
 use Rattle.std.specs.Prelude.{codes, pos}
 use Rattle.ur_values.specs.declared.schema.ColumnKind.TheVariants as kind
 use Rattle.ur_values.specs.declared.value.Tag.TheVariants as tag
@@ -13,8 +13,8 @@ use Rattle.ur_sql.specs.declared.query.Aggregate.TheVariants as agg
 use Rattle.ur_rows.specs.declared.normal.Label.TheVariants as label
 use Rattle.ur_rows.specs.declared.normal.NormalType.TheVariants as ty
 use Rattle.ur_rows.specs.Made as made
-use Rattle.ur_type_words.specs.FieldNames.{capital, alias_of, of_query, of_con}
-use Rattle.ur_type_words.specs.Places.{in_page, in_body, in_table, in_row, in_form, in_fields, in_nothing, inside, fields_found}
+use Rattle.ur_type_words.specs.FieldNames.{capital}
+use Rattle.ur_type_words.specs.Places.{in_body, in_table, in_form, inside, fields_found}
 use Rattle.ur_type_words.specs.QueryRow.{query_row}
 use Rattle.ur_type_words.specs.Text.{type_text}
 
