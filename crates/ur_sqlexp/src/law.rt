@@ -1,0 +1,12 @@
+ghost use Rattle.ur_sqlexp.specs.Faults.{FaultyIsNone};
+ghost use Rattle.ur_sqlexp.specs.Fits.{KindedFits};
+
+/// What has a fault stands for nothing.
+pub fn faulty_is_none()
+    ensures { FaultyIsNone }
+{}
+
+/// What an expression stands for has its kind in the core.
+pub fn kinded_fits()
+    ensures { KindedFits }
+{}
