@@ -11,3 +11,4 @@ mod texts;
 
 pub use decls::events;
 pub use event::{Event, Mark, Sort};
+pub use texts::{change, parts, query};
