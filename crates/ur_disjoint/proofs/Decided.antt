@@ -1,18 +1,19 @@
 -- The tests decide disjointness.
-use Rattle.std.proofs.Common.{◌≡◌, refl, ap, ap₂, sym, ◌∙◌, subst, ℕ, ◌⊎◌, inl, inr, Bool, true, false, not, ◌&&◌, ◌||◌, ◌≢◌, ◌↔◌, IsTrue, List, [], ◌∷◌, map, Contains, bytes_eq, true≢false, arith, ◌==◌}
+use Rattle.std.proofs.Common.{◌≡◌, refl, ap, ap₂, sym, ◌∙◌, subst, ℕ, ◌⊎◌, inl, inr, Bool, true, false, not, ◌&&◌, ◌||◌, ◌≢◌, ◌↔◌, IsTrue, List, [], ◌∷◌, map, zero, suc, ◌<◌, length, slice_index_or, All, AllPairs, Contains, bytes_eq, true≢false, arith, ◌==◌}
 use Rattle.std.proofs.lemmas.Bool.{cases_Bool}
 use Rattle.std.proofs.lemmas.Bool.Decides.{nat_tests}
 use Rattle.std.proofs.lemmas.Slice.Eq.{bytes_eq-Decides}
+use Rattle.std.proofs.lemmas.List.Kept.{AllPairs-cons}
 use Rattle.ur_rows.specs.declared.normal.Var.{Var}
 use Rattle.ur_rows.specs.declared.normal.Var.TheVariants as var
 use Rattle.ur_rows.specs.declared.normal.Label.{Label}
 use Rattle.ur_rows.specs.declared.normal.Label.TheVariants as label
 use Rattle.ur_rows.specs.declared.normal.Part.{Part}
 use Rattle.ur_rows.specs.Types.{same_var, same_label}
-use Rattle.ur_rows.specs.Apart.{Piece, name, row, piece_of, pieces, Assumptions, ApartPieces, literals, assumed, turned, Apart}
+use Rattle.ur_rows.specs.Apart.{Piece, name, row, piece_of, pieces, Assumptions, ApartPieces, literals, assumed, turned, Apart, AreApart}
 use Rattle.ur_disjoint.specs.declared.rows.Assumed.{Assumed}
-use Rattle.ur_disjoint.specs.Tests.{pair, same_piece, holds_piece, labels_differ, differ, assumed_apart, apart_from, is_apart}
-use Rattle.ur_disjoint.proofs.Members.{In, in-contains, contains-in, in-map, map-in}
+use Rattle.ur_disjoint.specs.Tests.{pair, same_piece, holds_piece, differ, assumed_apart, apart_from, is_apart, all_apart}
+use Rattle.ur_disjoint.proofs.Members.{In, in-contains, contains-in, in-map}
 
 -- ---- tests
 
@@ -146,13 +147,13 @@ differ-apart known (row v) q e = absurd (true≢false (sym e))
 literals-differ : (a b : List ℕ) → a ≢ b → not (bytes_eq a b) ≡ true
 literals-differ a b n = elim (cases_Bool (bytes_eq a b)) [ inl x ↦ absurd (n ((bytes_eq-Decides a b).0 x)) | inr x ↦ ap not x ]
 
-tested-apart : (known : List Assumed) (p q : Piece) → (differ p q || assumed_apart known p q) ≡ true → ApartPieces (map pair known) p q
+pub tested-apart : (known : List Assumed) (p q : Piece) → (differ p q || assumed_apart known p q) ≡ true → ApartPieces (map pair known) p q
 tested-apart known p q e = elim (or-true (differ p q) (assumed_apart known p q) e) [
   | inl x ↦ differ-apart (map pair known) p q x
   | inr x ↦ found-apart known p q (assumed-found known p q x)
 ]
 
-apart-tested : (known : List Assumed) (p q : Piece) → ApartPieces (map pair known) p q → (differ p q || assumed_apart known p q) ≡ true
+pub apart-tested : (known : List Assumed) (p q : Piece) → ApartPieces (map pair known) p q → (differ p q || assumed_apart known p q) ≡ true
 apart-tested known p q (literals {a = a} {b = b} n) = or-first (not (bytes_eq a b)) (assumed_apart known p q) (literals-differ a b n)
 apart-tested known p q (assumed {r = r} {s = s} c i j) = or-second (differ p q) (assumed_apart known p q)
     (assumed-holds known p q r s (in-contains (r, s) (map pair known) c) (in-contains p (pieces r) i) (in-contains q (pieces s) j))
@@ -188,3 +189,34 @@ is_apart-decides known r s b e = (
   λ t p q i j. tests-apart known r s (sym e ∙ t) p q (in-contains p (pieces r) i) (in-contains q (pieces s) j),
   λ h. e ∙ apart-tests known r s (λ p q i j. h p q (contains-in p (pieces r) i) (contains-in q (pieces s) j)),
 )
+
+-- ---- the pieces of one row
+
+in-at : (p : Piece) (ps : List Piece) (i : ℕ) → i < length ps → In (slice_index_or ps i p) ps
+in-at p [] i h = absurd (omega arith)
+in-at p (q ∷ ps) zero h = inl refl
+in-at p (q ∷ ps) (suc i) h = inr (in-at p ps i (omega arith))
+
+in-all : (P : Piece → Type 0) (ps : List Piece) → ((q : Piece) → In q ps → P q) → All P ps
+in-all P ps h = λ i d k. h (slice_index_or ps i d) (in-at d ps i k)
+
+tests-all : (known : List Assumed) (r : List Part) → all_apart known r ≡ true → AreApart (map pair known) r
+tests-all known [] e = λ i j d h k. absurd (omega arith)
+tests-all known (x ∷ r) e =
+    let a = and-true (apart_from known (piece_of x) r) (all_apart known r) e in
+    AllPairs-cons (ApartPieces (map pair known)) (piece_of x) (pieces r) (in-all (ApartPieces (map pair known) (piece_of x)) (pieces r) (from-apart known (piece_of x) r a.0)) (tests-all known r a.1)
+
+-- the pairs of a list with one element more at its front
+first-apart : (known : Assumptions) (p : Piece) (ps : List Piece) → AllPairs (ApartPieces known) (p ∷ ps) → (q : Piece) → In q ps → ApartPieces known p q
+first-apart known p ps a q i = let c = contains-in q ps i in subst (ApartPieces known p) c.2 (a 0 (suc c.0) q (omega arith) (omega (arith, c.1)))
+
+later-apart : (known : Assumptions) (p : Piece) (ps : List Piece) → AllPairs (ApartPieces known) (p ∷ ps) → AllPairs (ApartPieces known) ps
+later-apart known p ps a i j d h k = a (suc i) (suc j) d (omega arith) (omega arith)
+
+all-tests : (known : List Assumed) (r : List Part) → AreApart (map pair known) r → all_apart known r ≡ true
+all-tests known [] a = refl
+all-tests known (x ∷ r) a = and-both (apart_from known (piece_of x) r) (all_apart known r)
+    (apart-from known (piece_of x) r (first-apart (map pair known) (piece_of x) (pieces r) a)) (all-tests known r (later-apart (map pair known) (piece_of x) (pieces r) a))
+
+pub all_apart-decides : (known : List Assumed) (r : List Part) (b : Bool) → b ≡ all_apart known r → IsTrue b ↔ AreApart (map pair known) r
+all_apart-decides known r b e = (λ t. tests-all known r (sym e ∙ t), λ a. e ∙ all-tests known r a)

@@ -1,9 +1,7 @@
 -- Disjointness is kept by substitution.
-use Rattle.std.proofs.Common.{◌≡◌, refl, ap, ap₂, sym, ◌∙◌, subst, ℕ, zero, suc, ◌⊎◌, inl, inr, Bool, true, false, ◌≢◌, List, [], ◌∷◌, map, Contains, if◌then◌else◌}
-use Rattle.std.proofs.lemmas.Bool.{cases_Bool}
+use Rattle.std.proofs.Common.{◌≡◌, refl, sym, ◌∙◌, subst, ℕ, zero, suc, ◌⊎◌, inl, inr, Bool, true, false, List, [], ◌∷◌, if◌then◌else◌}
 use Rattle.ur_rows.specs.declared.normal.Var.{Var}
 use Rattle.ur_rows.specs.declared.normal.Var.TheVariants as var
-use Rattle.ur_rows.specs.declared.normal.Label.{Label}
 use Rattle.ur_rows.specs.declared.normal.Label.TheVariants as label
 use Rattle.ur_rows.specs.declared.normal.NormalType.{NormalType}
 use Rattle.ur_rows.specs.declared.normal.NormalType.TheVariants as ty
@@ -12,8 +10,8 @@ use Rattle.ur_rows.specs.declared.normal.Part.{Part}
 use Rattle.ur_rows.specs.declared.normal.Part.TheVariants as part
 use Rattle.ur_rows.specs.declared.normal.Normal.{Normal}
 use Rattle.ur_rows.specs.Order.{stands_before, with_part, joined}
-use Rattle.ur_rows.specs.Put.{Putting, put_label, put_type, put_part, put_row, mapped_variable, mapped_part, mapped_row, composed, arguments, instance_row}
-use Rattle.ur_rows.specs.Apart.{Piece, name, row, piece_of, pieces, Assumptions, ApartPieces, literals, assumed, turned, Apart}
+use Rattle.ur_rows.specs.Put.{put_label, put_type, put_part, mapped_variable, mapped_part, mapped_row, composed, arguments, instance_row}
+use Rattle.ur_rows.specs.Apart.{Piece, name, row, piece_of, pieces, Assumptions, ApartPieces, literals, assumed, turned}
 use Rattle.ur_disjoint.specs.Kept.{ApartIsKept}
 use Rattle.ur_disjoint.proofs.Members.{In, in-contains, contains-in}
 

@@ -1,7 +1,7 @@
 ghost use Rattle.std.specs.Prelude.{◌≡◌, ◌↔◌, IsTrue, map};
-ghost use Rattle.ur_rows.specs.Apart.{Apart, piece_of};
+ghost use Rattle.ur_rows.specs.Apart.{Apart, AreApart, piece_of};
 ghost use Rattle.ur_rows.specs.Types.{same_var, same_label};
-ghost use Rattle.ur_disjoint.specs.Tests.{same_piece, holds_piece, labels_differ, differ, assumed_apart, apart_from, is_apart, pair};
+ghost use Rattle.ur_disjoint.specs.Tests.{same_piece, holds_piece, labels_differ, differ, assumed_apart, apart_from, is_apart, all_apart, pair};
 ghost use Rattle.ur_disjoint.specs.Kept.{ApartIsKept};
 
 use ur_base::List;
@@ -147,6 +147,26 @@ pub fn prove(assumed: &[Assumed], left: &[Part], right: &[Part]) -> bool
     ensures { IsTrue result ↔ Apart (map pair assumed.now) left.now right.now }
 {
     is_apart(assumed, left, right)
+}
+
+/// Whether the pieces of a row are apart from each other.
+pub fn are_apart(assumed: &[Assumed], row: &[Part]) -> bool
+    ensures { IsTrue result ↔ AreApart (map pair assumed.now) row.now }
+{
+    all_apart(assumed, row)
+}
+
+fn all_apart(assumed: &[Assumed], row: &[Part]) -> bool
+    ensures { result ≡ all_apart assumed.now row.now }
+{
+    let mut rest = row;
+    while let Some((p, behind)) = rest.split_first() {
+        if !apart_from(assumed, p, behind) {
+            return false;
+        }
+        rest = behind;
+    }
+    true
 }
 
 /// Rows that are apart stay so where constructors take the place of variables.
