@@ -1,0 +1,9 @@
+//! The cache sites, the updates and the patterns between them, as text.
+#![tactic(auto)]
+
+mod lines;
+mod patterns;
+#[cfg(test)]
+mod tests;
+
+pub use lines::sites_text;
