@@ -1,0 +1,4 @@
+pub mod Equations
+mod Refused
+mod Examples
+mod Meeting

@@ -1,0 +1,5 @@
+pub mod Tags
+pub mod Literal
+pub mod Faults
+pub mod Views
+pub mod Laws
