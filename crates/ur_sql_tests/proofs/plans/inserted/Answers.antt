@@ -1,5 +1,5 @@
 use Rattle.ur_sql_tests.proofs.Samples.{insert_fits}
-use Rattle.ur_sql_tests.proofs.statements.plans.inserted.Goals as goal
+use Rattle.ur_sql_tests.proofs.plans.inserted.Goals as goal
 
 pub plan-requires-clause-change : goal.plan-requires-clause-change
 plan-requires-clause-change c =

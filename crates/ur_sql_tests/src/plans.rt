@@ -5,7 +5,7 @@ ghost use Rattle.ur_values.specs.Numbered.{HaveRisingNumbers};
 ghost use Rattle.ur_sql.specs.declared.scalar.Scalar.TheVariants as s;
 ghost use Rattle.ur_sql.specs.declared.change.Action.TheVariants as action;
 
-use super::changes::{Step, comes_to};
+use crate::tables::planned_text;
 use std::alloc::Global;
 use ur_base::{List, Memory};
 use ur_sql::{Action, Change, Planned, Scalar, plan};
@@ -93,12 +93,16 @@ fn inserted(alloc: Global, a: i64, b: i64) -> Result<Planned, Memory> {
     )
 }
 
+fn comes_to(alloc: Global, a: i64, b: i64, want: &[u8]) -> Result<bool, Memory> {
+    let planned = inserted(alloc, a, b)?;
+    let text = planned_text(alloc, &planned)?;
+    Ok(text.as_slice() == want)
+}
+
 #[test]
 fn an_insert_is_planned(rt: HostRuntime) -> Result<(), Memory> {
     let alloc = rt.alloc();
-    let new = inserted(alloc, 7, 8)?;
-    assert!(rt; comes_to(&new, &[Step::Add(8, 7)]));
-    let repeated = inserted(alloc, 7, 3)?;
-    assert!(rt; comes_to(&repeated, &[Step::Key(0)]));
+    assert!(rt; comes_to(alloc, 7, 8, b"+87")?);
+    assert!(rt; comes_to(alloc, 7, 3, b"K0")?);
     Ok(())
 }
