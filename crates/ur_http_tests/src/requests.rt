@@ -1,8 +1,8 @@
 //! Worked requests, in pieces of every size, and the bytes of answers.
-use ur_http::{Item, Method, Splitter, fixed, one_list, respond};
 use std::alloc::Global;
 use std::test::Fail;
 use ur_base::{List, Text};
+use ur_http::{Item, Method, Splitter, fixed, one_list, respond};
 
 /// What a row of bytes gives: its requests, each as a line, and how it ends.
 fn told(alloc: Global, bytes: &[u8], size: usize) -> Result<String, Fail> {
