@@ -1,0 +1,3 @@
+pub mod Parts
+pub mod Terms
+pub mod Counts
