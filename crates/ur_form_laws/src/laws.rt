@@ -1,3 +1,4 @@
+//! Laws of the definition of normal forms.
 ghost use Rattle.ur_form_laws.specs.Forms.{AreNormal, HaveKinds, DefinitionsStand, AppliedIsDefined};
 
 use ur_syntax::ConEnv;

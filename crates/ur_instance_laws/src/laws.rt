@@ -1,3 +1,4 @@
+//! Laws of instances.
 ghost use Rattle.ur_instance_laws.specs.Instances.{InstanceKeepsKinds, InstanceOfUnion, InstanceOfMap, InstanceOfApplied};
 
 /// An instance at constructors of the variables' kinds is in scope where these are.
