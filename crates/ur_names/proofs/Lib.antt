@@ -1,2 +1,5 @@
 mod Examples
+mod Indexing
+mod Reaching
+mod Same
 mod Scopes

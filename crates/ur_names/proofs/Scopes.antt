@@ -1,13 +1,11 @@
 -- Names that are looked up, and scopes that are closed.
-use Rattle.std.proofs.Common.{◌≡◌, refl, ap, ap₂, sym, ◌∙◌, subst, ℕ, zero, suc, ◌+◌, ◌<◌, ◌≤◌, Bool, true, false, ◌||◌, List, [], ◌∷◌, ◌++◌, length, take, drop, get_or, Option, Some, None, Result, Ok, Err, arith}
-use Rattle.std.specs.List.{list_any}
+use Rattle.std.proofs.Common.{◌≡◌, refl, ap, ap₂, sym, ◌∙◌, subst, ℕ, suc, ◌+◌, ◌<◌, ◌≤◌, List, [], ◌∷◌, ◌++◌, length, take, drop, get_or, Option, Some, None, Result, Ok, Err, arith}
 use Rattle.std.specs.Result.{IsErrAnd}
 use Rattle.std.proofs.Math.Seq.{drop-cons, drop-length}
-use Rattle.std.proofs.lemmas.List.{take-append-le}
 use Rattle.ur_base.specs.declared.refusal.Stop.{Stop}
 use Rattle.ur_base.specs.declared.refusal.Stop.TheVariants as stop
 use Rattle.ur_uses.specs.declared.event.Event.{Event}
-use Rattle.ur_names.specs.declared.scope.Key.{Key}
+use Rattle.ur_names.specs.declared.keys.Key.{Key}
 use Rattle.ur_names.specs.declared.scope.Frame.{Frame}
 use Rattle.ur_names.specs.declared.scope.Scope.{Scope}
 use Rattle.ur_names.specs.Faults.{Fault, Told, first, fault_in, fault_at, after, last_frame, outer, closed_at}
@@ -19,18 +17,6 @@ pub next-drop : {A : Type 0} (xs : List A) (i : ℕ) (x : A) → i < length xs �
 next-drop xs i x h g = drop-cons xs i x h ∙ ap₂ (λ y n. y ∷ drop n xs) (sym g) (more i) where
   more : (i : ℕ) → suc i ≡ i + 1
   more i = omega arith
-
-pub any-next : {A : Type 0} (p : A → Bool) (xs : List A) (i : ℕ) (x : A) (b : Bool) → i < length xs → x ≡ get_or xs i x → b ≡ p x → list_any p (drop i xs) ≡ (b || list_any p (drop (i + 1) xs))
-any-next p xs i x b h g e = ap (list_any p) (next-drop xs i x h g) ∙ ap (λ z. z || list_any p (drop (i + 1) xs)) (sym e)
-
-pub any-end : {A : Type 0} (p : A → Bool) (xs : List A) (i : ℕ) → length xs ≤ i → i ≤ length xs → list_any p xs ≡ list_any p (drop i xs) → false ≡ list_any p xs
-any-end p xs i h k n = sym (n ∙ (ap (λ j. list_any p (drop j xs)) (meet i (length xs) h k) ∙ ap (list_any p) (drop-length xs)))
-
-pub or-true : (b r z : Bool) → z ≡ (b || r) → b ≡ true → true ≡ z
-or-true b r z e t = sym (e ∙ ap (λ y. y || r) t)
-
-pub or-false : (b r z : Bool) → z ≡ (b || r) → b ≡ false → z ≡ r
-or-false b r z e t = e ∙ ap (λ y. y || r) t
 
 -- ---- the last frame
 
@@ -50,29 +36,6 @@ made h b g fs = record { home = h; bound = b; given = g; frames = fs }
 pub closed-is : (s : Scope) (fs : List Frame) (f : Frame) (b g : List Key) → s.frames ≡ fs ++ f ∷ [] → b ≡ take f.bound s.bound → g ≡ take f.given s.given → made s.home b g fs ≡ closed_at (last_frame s.frames) s
 closed-is s fs f b g e h k = sym (ap (λ o. closed_at o s) (ap last_frame e ∙ last-made fs f) ∙
     (ap₂ (λ x y. made s.home x y (outer s.frames)) (sym h) (sym k) ∙ ap (λ z. made s.home b g z) (ap outer e ∙ outer-made fs f)))
-
--- ---- taking away at the end
-
-longer : (n m : ℕ) → n < m + 1 → n ≤ m
-longer n m h = omega arith
-
-pub cut-step : {A : Type 0} (n : ℕ) (old new : List A) (x : A) → old ≡ new ++ x ∷ [] → n < length old → take n new ≡ take n old
-cut-step n old new x e h = sym (ap (take n) e ∙ take-append-le n new (x ∷ []) (longer n (length new) (subst (λ m. n < m) (ap length e ∙ one-more new x) h))) where
-  one-more : {A : Type 0} (xs : List A) (x : A) → length (xs ++ x ∷ []) ≡ length xs + 1
-  one-more [] x = refl
-  one-more (y ∷ xs) x = omega (arith, one-more xs x)
-
-pub cut-end : {A : Type 0} (n : ℕ) (xs : List A) → length xs ≤ n → take n xs ≡ xs
-cut-end n [] h = nothing n where
-  nothing : {A : Type 0} (n : ℕ) → take {A = A} n [] ≡ []
-  nothing zero = refl
-  nothing (suc n) = refl
-cut-end zero (x ∷ xs) h = absurd (none-below (length xs) h) where
-  none-below : (n : ℕ) → suc n ≤ zero → ⊥
-  none-below n h = omega arith
-cut-end (suc n) (x ∷ xs) h = ap (λ ys. x ∷ ys) (cut-end n xs (fewer (length xs) n h)) where
-  fewer : (n m : ℕ) → suc n ≤ suc m → n ≤ m
-  fewer n m h = omega arith
 
 -- ---- the first fault
 

@@ -1,5 +1,5 @@
 -- The first name that is not in scope, or stands twice where once is allowed.
-use Rattle.std.specs.Prelude.{◌≡◌, ℕ, nat_eq, List, [], ◌∷◌, ◌++◌, length, take, drop, Bool, true, false, ◌&&◌, ◌||◌, if◌then◌else◌, Option, Some, None, codes, bytes_eq, Result, Ok, Err, ⊤}
+use Rattle.std.specs.Prelude.{◌≡◌, ℕ, List, [], ◌∷◌, ◌++◌, length, take, drop, Bool, true, false, ◌&&◌, ◌||◌, if◌then◌else◌, Option, Some, None, codes, bytes_eq, Result, Ok, Err, ⊤}
 use Rattle.std.specs.List.{list_any}
 use Rattle.ur_base.specs.Stopping.{Says}
 use Rattle.ur_base.specs.declared.refusal.Span.{Span}
@@ -13,21 +13,11 @@ use Rattle.ur_uses.specs.declared.event.Sort.{Sort}
 use Rattle.ur_uses.specs.declared.event.Sort.TheVariants as sort
 use Rattle.ur_uses.specs.declared.event.Event.{Event}
 use Rattle.ur_uses.specs.declared.event.Event.TheVariants as event
-use Rattle.ur_names.specs.declared.scope.Key.{Key}
+use Rattle.ur_names.specs.Sorts.{same_sort}
+use Rattle.ur_names.specs.declared.keys.Key.{Key}
 use Rattle.ur_names.specs.declared.scope.Frame.{Frame}
 use Rattle.ur_names.specs.declared.scope.Scope.{Scope}
 use Rattle.ur_uses.specs.Decls.{in_project}
-
-abbrev pub sort_number : Sort → ℕ
-sort_number sort.Con = 0
-sort_number sort.Value = 1
-sort_number sort.Constructor = 2
-sort_number sort.Table = 3
-sort_number sort.Sequence = 4
-sort_number sort.Cookie = 5
-
-abbrev pub same_sort : Sort → Sort → Bool
-same_sort s t = nat_eq (sort_number s) (sort_number t)
 
 abbrev pub key : Sort → Option (List ℕ) → List ℕ → Key
 key s m x = record { sort = s; home = m; name = x }

@@ -1,1 +1,3 @@
 pub mod Faults
+pub mod Indexed
+pub mod Sorts

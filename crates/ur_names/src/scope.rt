@@ -1,22 +1,16 @@
 //! The names in scope, and those that were given in it.
-ghost use Rattle.std.specs.Prelude.{◌≡◌, [], ◌∷◌, ◌++◌, OnOk, IfOk, Some, None, take, bytes_eq};
+ghost use Rattle.std.specs.Prelude.{◌≡◌, [], OnOk, IfOk, Some, None, bytes_eq};
 ghost use Rattle.ur_base.specs.Stopping.{Says};
-ghost use Rattle.ur_syntax.specs.Names.{same_module, name_text};
+ghost use Rattle.ur_syntax.specs.Names.{name_text};
 ghost use Rattle.std.specs.List.{list_any};
 ghost use Rattle.ur_uses.specs.declared.event.Event.TheVariants as event;
-ghost use Rattle.ur_names.specs.Faults.{is_local, is_member, same_sort, sort_number, has_own, knows_own, knows_member, is_given, is_known_word, is_type_word, last_frame, given_before, after, key, Fault, unless, form_fault, fault_at, fault_in, Told, start};
+ghost use Rattle.ur_names.specs.Faults.{is_local, is_member, has_own, knows_own, knows_member, is_given, is_known_word, is_type_word, last_frame, given_before, after, key, form_fault, fault_at, fault_in, Told, start};
 
+use crate::keys::{Key, Keys, cut};
+use crate::spots::{local_spot, member_spot};
 use std::alloc::Global;
 use ur_base::{List, Memory, Refusal, Span, Stop, Text};
 use ur_uses::{Event, Sort};
-
-/// A name of a sort, with its module where it is declared.
-#[derive(Drop)]
-pub struct Key {
-    pub sort: Sort,
-    pub home: Option<Text>,
-    pub name: Text,
-}
 
 /// How many names were bound and given where a scope begins.
 #[derive(Clone, Copy)]
@@ -29,8 +23,8 @@ pub struct Frame {
 #[derive(Drop)]
 pub struct Scope {
     pub home: Text,
-    pub bound: List<Key>,
-    pub given: List<Key>,
+    pub bound: Keys,
+    pub given: Keys,
     pub frames: List<Frame>,
 }
 
@@ -38,68 +32,6 @@ fn copy(alloc: Global, x: &Text) -> Result<Text, Memory>
     ensures { IfOk result (λ y. y ≡ x.now) }
 {
     List::from_slice(alloc, x.as_slice())
-}
-
-fn sort_number(sort: Sort) -> u8
-    ensures { result ≡ sort_number sort }
-{
-    match sort {
-        Sort::Con => 0,
-        Sort::Value => 1,
-        Sort::Constructor => 2,
-        Sort::Table => 3,
-        Sort::Sequence => 4,
-        Sort::Cookie => 5,
-    }
-}
-
-fn same_sort(s: Sort, t: Sort) -> bool
-    ensures { result ≡ same_sort s t }
-{
-    sort_number(s) == sort_number(t)
-}
-
-fn is_local(sort: Sort, x: &[u8], key: &Key) -> bool
-    ensures { result ≡ is_local sort x.now key.now }
-{
-    same_sort(sort, key.sort) && (key.home.is_none() && x == key.name.as_slice())
-}
-
-fn is_home(home: &Option<Text>, m: &[u8]) -> bool
-    ensures { result ≡ same_module (Some m.now) home.now }
-{
-    match home {
-        Some(n) => m == n.as_slice(),
-        None => false,
-    }
-}
-
-fn is_member(sort: Sort, m: &[u8], x: &[u8], key: &Key) -> bool
-    ensures { result ≡ is_member sort m.now x.now key.now }
-{
-    same_sort(sort, key.sort) && (is_home(&key.home, m) && x == key.name.as_slice())
-}
-
-fn any_local(sort: Sort, x: &[u8], keys: &[Key]) -> bool
-    ensures { result ≡ list_any (is_local sort x.now) keys.now }
-{
-    for i in 0..keys.len() {
-        if is_local(sort, x, &keys[i]) {
-            return true;
-        }
-    }
-    false
-}
-
-fn any_member(sort: Sort, m: &[u8], x: &[u8], keys: &[Key]) -> bool
-    ensures { result ≡ list_any (is_member sort m.now x.now) keys.now }
-{
-    for i in 0..keys.len() {
-        if is_member(sort, m, x, &keys[i]) {
-            return true;
-        }
-    }
-    false
 }
 
 fn is(x: &[u8], word: &[u8]) -> bool
@@ -134,37 +66,92 @@ fn is_known_word(sort: Sort, x: &[u8]) -> bool
     }
 }
 
-fn has_own(scope: &Scope, sort: Sort, x: &[u8]) -> bool
-    ensures { result ≡ has_own scope.now sort x.now }
+fn local(alloc: Global, sort: Sort, x: &[u8]) -> Result<Key, Memory>
+    ensures { IfOk result (λ k. k ≡ key sort None x.now) }
 {
-    any_local(sort, x, scope.bound.as_slice())
-        || any_member(sort, scope.home.as_slice(), x, scope.bound.as_slice())
+    let name = List::from_slice(alloc, x)?;
+    Ok(Key {
+        sort,
+        home: None,
+        name,
+    })
 }
 
-fn knows_own(scope: &Scope, sort: Sort, x: &[u8]) -> bool
-    ensures { result ≡ knows_own scope.now sort x.now }
+fn member(alloc: Global, sort: Sort, m: &[u8], x: &[u8]) -> Result<Key, Memory>
+    ensures { IfOk result (λ k. k ≡ key sort (Some m.now) x.now) }
 {
-    has_own(scope, sort, x) || is_known_word(sort, x)
+    let home = List::from_slice(alloc, m)?;
+    let name = List::from_slice(alloc, x)?;
+    Ok(Key {
+        sort,
+        home: Some(home),
+        name,
+    })
 }
 
-fn knows_member(scope: &Scope, sort: Sort, m: &[u8], x: &[u8]) -> bool
-    ensures { result ≡ knows_member scope.now sort m.now x.now }
+/// Whether a local name stands among the keys.
+#[tactic(auto, using(crate::proofs::Same::local_among))]
+fn has_local(alloc: Global, keys: &Keys, sort: Sort, x: &[u8]) -> Result<bool, Memory>
+    ensures { IfOk result (λ b. b ≡ list_any (is_local sort x.now) keys.now) }
+{
+    let spot = local_spot(alloc, sort, x)?;
+    let found = keys.holds(&spot);
+    Ok(found)
+}
+
+/// Whether a name that a module declared stands among the keys.
+#[tactic(auto, using(crate::proofs::Same::member_among))]
+fn has_member(alloc: Global, keys: &Keys, sort: Sort, m: &[u8], x: &[u8]) -> Result<bool, Memory>
+    ensures { IfOk result (λ b. b ≡ list_any (is_member sort m.now x.now) keys.now) }
+{
+    let spot = member_spot(alloc, sort, m, x)?;
+    let found = keys.holds(&spot);
+    Ok(found)
+}
+
+fn has_own(alloc: Global, scope: &Scope, sort: Sort, x: &[u8]) -> Result<bool, Memory>
+    ensures { IfOk result (λ b. b ≡ has_own scope.now sort x.now) }
+{
+    if has_local(alloc, &scope.bound, sort, x)? {
+        return Ok(true);
+    }
+    let found = has_member(alloc, &scope.bound, sort, scope.home.as_slice(), x)?;
+    Ok(found)
+}
+
+fn knows_own(alloc: Global, scope: &Scope, sort: Sort, x: &[u8]) -> Result<bool, Memory>
+    ensures { IfOk result (λ b. b ≡ knows_own scope.now sort x.now) }
+{
+    if has_own(alloc, scope, sort, x)? {
+        return Ok(true);
+    }
+    Ok(is_known_word(sort, x))
+}
+
+fn knows_member(
+    alloc: Global,
+    scope: &Scope,
+    sort: Sort,
+    m: &[u8],
+    x: &[u8],
+) -> Result<bool, Memory>
+    ensures { IfOk result (λ b. b ≡ knows_member scope.now sort m.now x.now) }
 {
     if m == scope.home.as_slice() {
-        return false;
+        return Ok(false);
     }
-    any_member(sort, m, x, scope.bound.as_slice())
+    let found = has_member(alloc, &scope.bound, sort, m, x)?;
+    Ok(found)
 }
 
-fn is_given(scope: &Scope, sort: Sort, x: &[u8]) -> bool
-    ensures { result ≡ is_given scope.now sort x.now }
+#[tactic(auto, using(crate::proofs::Same::local_among))]
+fn is_given(alloc: Global, scope: &Scope, sort: Sort, x: &[u8]) -> Result<bool, Memory>
+    ensures { IfOk result (λ b. b ≡ is_given scope.now sort x.now) }
 {
     let from = given_before(scope.frames.as_slice());
-    let given = scope.given.as_slice();
-    if from < given.len() {
-        return any_local(sort, x, &given[from..]);
-    }
-    false
+    let spot = local_spot(alloc, sort, x)?;
+    let given = scope.given.holds_behind(&spot, from);
+    Ok(given)
 }
 
 fn given_before(frames: &[Frame]) -> usize
@@ -221,50 +208,30 @@ pub fn check(alloc: Global, scope: &Scope, event: &Event) -> Result<(), Stop>
 {
     match event {
         Event::Own(sort, span, x) => {
-            if knows_own(scope, *sort, x.as_slice()) {
+            if knows_own(alloc, scope, *sort, x.as_slice())? {
                 return Ok(());
             }
             Err(Stop::Refused(refusal(alloc, 7, *span, x)?))
         }
         Event::Member(sort, span, m, x) => {
-            if knows_member(scope, *sort, m.as_slice(), x.as_slice()) {
+            if knows_member(alloc, scope, *sort, m.as_slice(), x.as_slice())? {
                 return Ok(());
             }
             let text = member_text(alloc, m, x)?;
             Err(Stop::Refused(refusal(alloc, 7, *span, &text)?))
         }
         Event::Form(span) => {
-            let xml = has_own(scope, Sort::Con, b"xml");
-            let form = has_own(scope, Sort::Con, b"form");
+            let xml = has_own(alloc, scope, Sort::Con, b"xml")?;
+            let form = has_own(alloc, scope, Sort::Con, b"form")?;
             check_form(alloc, *span, xml, form)
         }
         Event::New(sort, span, x) => {
-            if is_given(scope, *sort, x.as_slice()) {
+            if is_given(alloc, scope, *sort, x.as_slice())? {
                 return Err(Stop::Refused(refusal(alloc, 8, *span, x)?));
             }
             Ok(())
         }
         _ => Ok(()),
-    }
-}
-
-fn local(alloc: Global, sort: Sort, x: &Text) -> Result<Key, Memory>
-    ensures { IfOk result (λ k. k ≡ key sort None x.now) }
-{
-    let name = copy(alloc, x)?;
-    Ok(Key {
-        sort,
-        home: None,
-        name,
-    })
-}
-
-/// Takes away what stands from a number on.
-fn cut(keys: &mut List<Key>, count: usize)
-    ensures { keys.new ≡ take count keys.old }
-{
-    while keys.len() > count {
-        keys.pop();
     }
 }
 
@@ -286,23 +253,18 @@ pub fn step(alloc: Global, scope: &mut Scope, event: &Event) -> Result<(), Memor
 {
     match event {
         Event::New(sort, _, x) => {
-            let key = local(alloc, *sort, x)?;
+            let key = local(alloc, *sort, x.as_slice())?;
             scope.given.push(key)?;
             Ok(())
         }
         Event::Bind(sort, x) => {
-            let key = local(alloc, *sort, x)?;
+            let key = local(alloc, *sort, x.as_slice())?;
             scope.bound.push(key)?;
             Ok(())
         }
         Event::Declare(sort, x) => {
-            let home = copy(alloc, &scope.home)?;
-            let name = copy(alloc, x)?;
-            scope.bound.push(Key {
-                sort: *sort,
-                home: Some(home),
-                name,
-            })?;
+            let key = member(alloc, *sort, scope.home.as_slice(), x.as_slice())?;
+            scope.bound.push(key)?;
             Ok(())
         }
         Event::Open => {
@@ -317,7 +279,7 @@ pub fn step(alloc: Global, scope: &mut Scope, event: &Event) -> Result<(), Memor
         }
         Event::Enter(m) => {
             scope.home = copy(alloc, m)?;
-            scope.given = List::new(alloc);
+            scope.given = Keys::new(alloc);
             scope.frames = List::new(alloc);
             Ok(())
         }
@@ -331,8 +293,8 @@ pub fn find(alloc: Global, events: &[Event]) -> Result<(), Stop>
 {
     let mut scope = Scope {
         home: List::new(alloc),
-        bound: List::new(alloc),
-        given: List::new(alloc),
+        bound: Keys::new(alloc),
+        given: Keys::new(alloc),
         frames: List::new(alloc),
     };
     for i in 0..events.len() {
