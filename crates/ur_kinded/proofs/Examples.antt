@@ -3,7 +3,6 @@ use Rattle.std.specs.Prelude.{◌≡◌, [], ◌∷◌, codes, Some, None, refl}
 use Rattle.ur_base.specs.Stopping.{Says}
 use Rattle.ur_base.specs.declared.refusal.Span.{Span}
 use Rattle.ur_base.specs.declared.refusal.Refusal.{Refusal}
-use Rattle.ur_syntax.specs.declared.kind.Kind.{Kind}
 use Rattle.ur_syntax.specs.declared.kind.Kind.TheVariants as kind
 use Rattle.ur_syntax.specs.declared.con.Con.{Con}
 use Rattle.ur_syntax.specs.declared.con.ConForm.TheVariants as con
@@ -12,11 +11,10 @@ use Rattle.ur_syntax.specs.declared.exp.ExpForm.TheVariants as e
 use Rattle.ur_syntax.specs.Kinds.{arrow}
 use Rattle.ur_syntax.specs.Names.{own, member}
 use Rattle.ur_syntax.specs.HasKind.{HasKind, scope_in, named, word}
-use Rattle.ur_kinds.specs.Texts.{kind_text}
 use Rattle.ur_kinds.specs.Faults.{other_kind}
 use Rattle.ur_kinded.specs.declared.state.State.{State}
-use Rattle.ur_kinded.specs.Acts.{Act, open_scope, close_scope, enter, variable, constructor, local, function, plain, type_at}
-use Rattle.ur_kinded.specs.Faults.{Lacks, FirstFault, here, later, after_all, start, wanted_of}
+use Rattle.ur_kinded.specs.Acts.{open_scope, close_scope, enter, variable, constructor, local, function, plain, type_at}
+use Rattle.ur_kinded.specs.Faults.{FirstFault, here, later, after_all, start, wanted_of}
 
 -- `fun f [nm :: Name] [r :: {Type}] ..` of the module M
 abbrev with_f : State

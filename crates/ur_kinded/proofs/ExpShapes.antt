@@ -1,5 +1,5 @@
 -- The acts of the expressions that the code matches.
-use Rattle.std.proofs.Common.{◌≡◌, refl, ap, ap₂, sym, ◌∙◌, List, [], ◌∷◌, ◌++◌, flat_map, map, ℕ, suc, ◌≤◌, length, slice_get, Option, Some, None}
+use Rattle.std.proofs.Common.{◌≡◌, refl, ap, ap₂, sym, ◌∙◌, List, [], ◌∷◌, ◌++◌, flat_map, ℕ, ◌≤◌, length, slice_get, Some, None}
 use Rattle.std.proofs.lemmas.Option.{slice_get_past, slice_get-map}
 use Rattle.std.specs.Option.{option_map}
 use mathlib.Core.Former.{Count}

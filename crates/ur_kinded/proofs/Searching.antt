@@ -1,16 +1,15 @@
 -- The first act that breaks a rule of kinds.
-use Rattle.std.proofs.Common.{◌≡◌, ◌≢◌, refl, ap, ap₂, sym, ◌∙◌, subst, ℕ, suc, ◌+◌, ◌<◌, ◌≤◌, arith, List, [], ◌∷◌, ◌++◌, length, drop, get_or, map, Option, Some, None, Result, Ok, Err, OnOk, true, false, true≢false, IsTrue, IsFalse, Bool}
-use Rattle.std.specs.Option.{option_map}
+use Rattle.std.proofs.Common.{◌≡◌, ◌≢◌, refl, ap, ap₂, sym, ◌∙◌, subst, ℕ, suc, ◌+◌, ◌<◌, ◌≤◌, arith, List, [], ◌∷◌, length, drop, get_or, Option, Some, None, Result, Ok, Err, OnOk, true≢false}
 use Rattle.std.specs.Result.{IsErrAnd}
 use Rattle.std.proofs.Math.Seq.{drop-cons, drop-length}
-use Rattle.ur_base.specs.Stopping.{Says, IfRefused}
+use Rattle.ur_base.specs.Stopping.{IfRefused}
 use Rattle.ur_base.specs.declared.refusal.Span.{Span}
 use Rattle.ur_base.specs.declared.refusal.Refusal.{Refusal}
 use Rattle.ur_base.specs.declared.refusal.Stop.{Stop}
 use Rattle.ur_base.specs.declared.refusal.Stop.TheVariants as stop
 use Rattle.ur_syntax.specs.declared.kind.Kind.{Kind}
 use Rattle.ur_syntax.specs.declared.con.ConForm.{ConForm}
-use Rattle.ur_syntax.specs.HasKind.{Scope, HasKind}
+use Rattle.ur_syntax.specs.HasKind.{Scope}
 use Rattle.ur_kinds.specs.Unknown.{unknown_in}
 use Rattle.ur_kinds.specs.Faults.{Fault, unknown, bad_kind, Tells, HasFault, Misfits, faulty, other_kind}
 use Rattle.ur_kinds.specs.Kindless.{Told, HasNoKind, HasNotKind}

@@ -1,5 +1,5 @@
 -- Values that are looked up from the last one on, and scopes that are closed.
-use Rattle.std.proofs.Common.{◌≡◌, refl, ap, ap₂, sym, ◌∙◌, subst, ℕ, zero, suc, ◌+◌, ◌-◌, ◌<◌, ◌≤◌, arith, Bool, true, false, if◌then◌else◌, List, [], ◌∷◌, ◌++◌, length, take, get_or, Option, Some, None}
+use Rattle.std.proofs.Common.{◌≡◌, refl, ap, ap₂, sym, ◌∙◌, subst, ℕ, ◌+◌, ◌-◌, ◌<◌, ◌≤◌, arith, Bool, true, false, if◌then◌else◌, List, [], ◌∷◌, ◌++◌, length, take, get_or, Option, Some}
 use Rattle.std.proofs.lemmas.List.{take_more, take-append-le}
 use Rattle.ur_syntax.specs.declared.kind.Kind.{Kind}
 use Rattle.ur_syntax.specs.declared.con.ConName.{ConName}

@@ -6,7 +6,6 @@ use Rattle.ur_base.specs.declared.refusal.Span.{Span}
 use Rattle.ur_base.specs.declared.refusal.Refusal.{Refusal}
 use Rattle.ur_syntax.specs.declared.kind.Kind.{Kind}
 use Rattle.ur_syntax.specs.declared.kind.Kind.TheVariants as kind
-use Rattle.ur_syntax.specs.declared.con.Con.{Con}
 use Rattle.ur_syntax.specs.declared.con.ConForm.{ConForm}
 use Rattle.ur_syntax.specs.declared.con.ConName.{ConName}
 use Rattle.ur_syntax.specs.declared.con.ConEntry.{ConEntry}

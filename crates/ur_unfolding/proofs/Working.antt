@@ -8,7 +8,7 @@ use Rattle.ur_meaning.specs.Form.{Language}
 use Rattle.ur_meaning.specs.Unfolds.{Unfolds, UnfoldAll}
 use Rattle.ur_meaning.specs.Unfolds as u
 use Rattle.ur_meaning.specs.Instances as n
-use Rattle.ur_meaning.specs.Instances.{Among, Different, IsNumbered, IsInstance, Calls, AreInstances, AtLeast, AllAtLeast, Nests, Weighed, total, TooManyInstances, HasTooManyNodes, IsTooDeep}
+use Rattle.ur_meaning.specs.Instances.{Among, Different, IsNumbered, IsInstance, Calls, AreInstances, Nests, TooManyInstances, IsTooDeep}
 use Rattle.ur_meaning.proofs.Parts.{get_longer, unfolds_more, calls_numbered}
 use Rattle.ur_unfolding.specs.Making.{State, state, CalledIn, Grown, Made, Full, TooDeep}
 use Rattle.ur_unfolding.specs.Working.{Unfolded, Worked}

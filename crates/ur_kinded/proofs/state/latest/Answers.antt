@@ -1,4 +1,4 @@
-use Rattle.std.proofs.Common.{ap, sym, ◌∙◌}
+use Rattle.std.proofs.Common.{sym, ◌∙◌}
 use Rattle.ur_kinded.specs.Keys.{key_of}
 use Rattle.ur_kinded.proofs.Values.{is-last, not-last}
 use Rattle.ur_kinded.proofs.state.latest.Goals as goal
