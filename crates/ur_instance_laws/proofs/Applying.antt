@@ -181,10 +181,10 @@ argument-passes k us a e = record {
 
 -- ---- an argument is put into what was raised for it
 
-abbrev Level : ℕ → ℕ → ℕ → Type 0
+abbrev pub Level : ℕ → ℕ → ℕ → Type 0
 Level a b c = (a ≡ c) × (b ≡ c)
 
-argument-cancels : (u : Normal) → Composes Level (argument u) (raising 1) itself
+pub argument-cancels : (u : Normal) → Composes Level (argument u) (raising 1) itself
 argument-cancels u = record {
   deeper = λ a b c at. (ap (λ n. suc n) at.0, ap (λ n. suc n) at.1);
   types = λ a b c at v. ap₂ (λ x y. at_fn 1 x (raised_var 1 y v) (as_type (raised x u)) (λ w. ty.Variable w)) at.0 at.1 ∙ at-raised-one c v (as_type (raised c u)) (λ w. ty.Variable w);

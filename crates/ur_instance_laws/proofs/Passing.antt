@@ -32,7 +32,7 @@ itself = renaming_but (λ d v. v) (λ d v. ty.Variable v)
 pub itself-same : IsIdentity itself
 itself-same = record { types = λ d v. refl; labels = λ d v. refl; rows = λ d v. refl; maps = λ d v g. refl }
 
-abbrev Level : ℕ → ℕ → ℕ → Type 0
+abbrev pub Level : ℕ → ℕ → ℕ → Type 0
 Level a b c = (a ≡ c) × (b ≡ c)
 
 cancels : (t : NormalType) → Composes Level (type_at 1 t) (raising 1) itself
