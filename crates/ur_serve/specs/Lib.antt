@@ -1,0 +1,9 @@
+pub mod Ending
+pub mod Finishing
+pub mod Handling
+pub mod Program
+pub mod Replies
+pub mod Responding
+pub mod Routes
+pub mod Served
+pub mod Serving
