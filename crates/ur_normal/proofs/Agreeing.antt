@@ -1,20 +1,15 @@
 -- What is kept of names tells of what these stand for.
-use Rattle.std.proofs.Common.{◌≡◌, refl, ap, sym, ◌∙◌, subst, ℕ, ◌+◌, ◌<◌, Bool, true, false, if◌then◌else◌, List, [], ◌∷◌, ◌++◌, length, drop, get_or, Option, Some, None, bytes_eq}
-use Rattle.std.proofs.lemmas.List.{drop_more}
+use Rattle.std.proofs.Common.{◌≡◌, refl, ap, sym, ◌∙◌, subst, ℕ, Bool, true, false, if◌then◌else◌, List, [], ◌∷◌, Option, Some, None, bytes_eq}
 use Rattle.ur_syntax.specs.declared.con.Con.{Con}
 use Rattle.ur_syntax.specs.declared.con.ConName.{ConName}
 use Rattle.ur_syntax.specs.declared.con.ConMeaning.TheVariants as meaning
 use Rattle.ur_syntax.specs.declared.con.ConEntry.{ConEntry}
-use Rattle.ur_syntax.specs.declared.con.ConEnv.{ConEnv}
 use Rattle.ur_syntax.specs.Names.{looked_up, or_own, seen_by, seen, same_con, member}
 use Rattle.ur_rows.specs.declared.normal.Normal.{Normal}
-use Rattle.ur_rows.specs.IsNormal.{is_normal}
-use Rattle.ur_rows.specs.Normal.{Known, known_in, known_after, at_home, entry_form, variables_with, nf_with}
+use Rattle.ur_rows.specs.Normal.{Known, at_home, entry_form, nf_with}
 use Rattle.ur_reduce.specs.declared.held.Held.{Held}
-use Rattle.ur_normal.specs.declared.names.Entry.{Entry}
 use Rattle.ur_reduce.specs.Held.{Holds}
-use Rattle.ur_normal.specs.Walk.{AgreesOn, Agrees, declared, known_so, home_in, IsKnown}
-use Rattle.ur_normal.proofs.Standing.{declared-last}
+use Rattle.ur_normal.specs.Walk.{AgreesOn, Agrees, known_so, home_in}
 
 -- ---- looking up
 
@@ -45,37 +40,6 @@ pub seen-agrees : (m : List ℕ) (k : ConName) (hs : List (ConName × (ℕ × He
 seen-agrees m k hs ns a = by-agrees k.home m k hs ns a
 
 -- ---- the names of an environment
-
-pub known-end : (home : List ℕ) (names : List (ConName × (ℕ × Normal))) (n i : ℕ) (es : List ConEntry) → drop i es ≡ [] → known_after (known_so home names) n (drop i es) ≡ known_so home names
-known-end home names n i es e = ap (known_after (known_so home names) n) e
-
-abbrev with_form : ConEntry → Normal → ConName × (ℕ × Normal)
-with_form e n = (e.name, (0, n))
-
-entry-at : (es : List ConEntry) (i : ℕ) (e : ConEntry) → i < length es → e ≡ get_or es i e → drop i es ≡ e ∷ drop (i + 1) es
-entry-at es i e h k = drop_more es i e h ∙ ap (λ z. z ∷ drop (i + 1) es) (sym k)
-
--- what is known so far, and what is known of all entries
-abbrev pub KnownSo : ConEnv → List Entry → ℕ → List ConEntry → Type 0
-KnownSo env known n es = (names : List (ConName × (ℕ × Normal))) × Agrees (declared known []) names × (known_in env ≡ known_after (known_so env.home names) n es)
-
-pub known-start : (env : ConEnv) (known : List Entry) (es : List ConEntry) → known ≡ [] → es ≡ env.entries → KnownSo env known 0 (drop 0 es)
-known-start env known es e f = ([], subst (λ z. Agrees (declared z []) []) (sym e) tt, ap (known_after (known_so env.home []) 0) (sym f))
-
-pub known-step : (env : ConEnv) (es : List ConEntry) (i : ℕ) (e : ConEntry) (known slice more : List Entry) (x : Entry) (n m : ℕ) → KnownSo env known n (drop i es) → i < length es → e ≡ get_or es i e → slice ≡ known →
-    ((names : List (ConName × (ℕ × Normal))) → Agrees (declared slice []) names → Holds x.held (entry_form (known_so env.home names) n e.name.home e.kind e.meaning)) →
-    ((names : List (ConName × (ℕ × Normal))) → is_normal (entry_form (known_so env.home names) n e.name.home e.kind e.meaning) ≡ true) →
-    m ≡ variables_with e.meaning n → x.name ≡ e.name → more ≡ known ++ x ∷ [] → KnownSo env more m (drop (i + 1) es)
-known-step env es i e known slice more x n m s h k l f o v q p = (
-  with_form e form ∷ s.0,
-  subst (λ z. Agrees z (with_form e form ∷ s.0)) (sym (ap (λ z. declared z []) p ∙ declared-last known x [])) (q, (refl, f s.0 (subst (λ z. Agrees (declared z []) s.0) (sym l) s.1), o s.0), s.1),
-  s.2 ∙ ap (known_after (known_so env.home s.0) n) (entry-at es i e h k) ∙ ap (λ z. known_after (known_so env.home (with_form e form ∷ s.0)) z (drop (i + 1) es)) (sym v),
-) where
-  form : Normal
-  form = entry_form (known_so env.home s.0) n e.name.home e.kind e.meaning
-
-pub known-whole : (env : ConEnv) (known : List Entry) (n : ℕ) (es : List ConEntry) → es ≡ [] → KnownSo env known n es → IsKnown known env
-known-whole env known n es e s = (s.0, s.1, s.2 ∙ ap (known_after (known_so env.home s.0) n) e)
 
 at-home : (h : Option (List ℕ)) (home : List ℕ) (names : List (ConName × (ℕ × Normal))) → at_home h (known_so home names) ≡ known_so (home_in h home) names
 at-home None home names = refl

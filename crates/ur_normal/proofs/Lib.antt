@@ -6,3 +6,4 @@ pub mod Naming
 pub mod Listing
 pub mod Walked
 pub mod Environs
+pub mod Scopes

@@ -1,5 +1,6 @@
 -- What words and names stand for.
-use Rattle.std.proofs.Common.{◌≡◌, refl, ap, sym, ◌∙◌, subst, ℕ, ◌+◌, ◌-◌, ◌<◌, arith, Bool, true, false, if◌then◌else◌, List, [], ◌∷◌, ◌++◌, length, take, get_or, Option, Some, Result, IfOk}
+use Rattle.std.proofs.Common.{◌≡◌, refl, ap, sym, ◌∙◌, subst, ℕ, ◌+◌, ◌-◌, ◌<◌, arith, Bool, true, false, ◌⊎◌, inl, inr, if◌then◌else◌, List, [], ◌∷◌, ◌++◌, append_assoc, length, take, get_or, Option, Some, None, Result, IfOk}
+use Rattle.std.proofs.lemmas.Bool.{cases_Bool}
 use Rattle.std.proofs.lemmas.List.{take_more}
 use Rattle.ur_syntax.specs.declared.kind.Kind.{Kind}
 use Rattle.ur_syntax.specs.declared.kind.Kind.TheVariants as kind
@@ -72,3 +73,33 @@ found-here k xs n i x all b a h l e f g = sym (a ∙ looked-step k xs n i x h l 
 pub passed-here : (k : ConName) (xs : List Entry) (n i : ℕ) (x : Entry) (all : Option (ℕ × Held)) (b : Bool) → all ≡ looked_up k (declared (take (n - i) xs) []) → i < n → n ≡ length xs →
     x ≡ get_or xs (n - 1 - i) x → b ≡ same_con k x.name → b ≡ false → all ≡ looked_up k (declared (take (n - (i + 1)) xs) [])
 passed-here k xs n i x all b a h l e f g = a ∙ looked-step k xs n i x h l e ∙ ap (λ z. if z then Some (0, x.held) else looked_up k (declared (take (n - (i + 1)) xs) [])) (sym f ∙ g)
+
+-- ---- names over others
+
+declared-over : (xs : List Entry) (known : List (ConName × (ℕ × Held))) → declared xs known ≡ declared xs [] ++ known
+declared-over [] known = refl
+declared-over (x ∷ xs) known = declared-over xs ((x.name, (0, x.held)) ∷ known) ∙ sym (append_assoc (declared xs []) ((x.name, (0, x.held)) ∷ []) known) ∙
+    ap (λ z. z ++ known) (sym (declared-over xs ((x.name, (0, x.held)) ∷ [])))
+
+looked-first : (k : ConName) (xs ys : List (ConName × (ℕ × Held))) (o : ℕ × Held) → Some o ≡ looked_up k xs → Some o ≡ looked_up k (xs ++ ys)
+looked-first k [] ys o e = absurd (cc)
+looked-first k (x ∷ xs) ys o e = step (cases_Bool (same_con k x.0)) (looked-first k xs ys o) where
+  step : (same_con k x.0 ≡ true) ⊎ (same_con k x.0 ≡ false) → (Some o ≡ looked_up k xs → Some o ≡ looked_up k (xs ++ ys)) → Some o ≡ looked_up k ((x ∷ xs) ++ ys)
+  step (inl f) ih = e ∙ ap (λ (b : Bool). if b then Some x.1 else looked_up k xs) f ∙ sym (ap (λ (b : Bool). if b then Some x.1 else looked_up k (xs ++ ys)) f)
+  step (inr f) ih = ih (e ∙ ap (λ (b : Bool). if b then Some x.1 else looked_up k xs) f) ∙ sym (ap (λ (b : Bool). if b then Some x.1 else looked_up k (xs ++ ys)) f)
+
+looked-behind : (k : ConName) (xs ys : List (ConName × (ℕ × Held))) → None ≡ looked_up k xs → looked_up k ys ≡ looked_up k (xs ++ ys)
+looked-behind k [] ys e = refl
+looked-behind k (x ∷ xs) ys e = step (cases_Bool (same_con k x.0)) (looked-behind k xs ys) where
+  never : None ≡ Some x.1 → ⊥
+  never q = cc
+
+  step : (same_con k x.0 ≡ true) ⊎ (same_con k x.0 ≡ false) → (None ≡ looked_up k xs → looked_up k ys ≡ looked_up k (xs ++ ys)) → looked_up k ys ≡ looked_up k ((x ∷ xs) ++ ys)
+  step (inl f) ih = absurd (never (e ∙ ap (λ (b : Bool). if b then Some x.1 else looked_up k xs) f))
+  step (inr f) ih = ih (e ∙ ap (λ (b : Bool). if b then Some x.1 else looked_up k xs) f) ∙ sym (ap (λ (b : Bool). if b then Some x.1 else looked_up k (xs ++ ys)) f)
+
+pub over-some : (k : ConName) (es : List Entry) (rest : List (ConName × (ℕ × Held))) (o : ℕ × Held) → Some o ≡ looked_up k (declared es []) → Some o ≡ looked_up k (declared es rest)
+over-some k es rest o e = looked-first k (declared es []) rest o e ∙ ap (looked_up k) (sym (declared-over es rest))
+
+pub over-none : (k : ConName) (es : List Entry) (rest : List (ConName × (ℕ × Held))) → None ≡ looked_up k (declared es []) → looked_up k rest ≡ looked_up k (declared es rest)
+over-none k es rest e = looked-behind k (declared es []) rest e ∙ ap (looked_up k) (sym (declared-over es rest))

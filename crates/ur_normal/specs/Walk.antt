@@ -33,6 +33,7 @@ declared (e ∷ entries) known = declared entries ((e.name, (0, e.held)) ∷ kno
 
 abbrev pub names_of : Names → List (ConName × (ℕ × Held))
 names_of (names.Declared entries) = declared entries.now []
+names_of (names.Over' entries _ rest) = declared entries.now (names_of rest)
 names_of (names.Bound' x d h _ rest) = (own x.now, (d, h.now)) ∷ names_of rest
 
 abbrev pub key_of : Key → ConName
@@ -100,5 +101,5 @@ abbrev pub known_so : List ℕ → List (ConName × (ℕ × Normal)) → Known
 known_so home names = record { home = home; depth = 0; names = names }
 
 -- what is kept of the names of an environment tells of what these stand for
-abbrev pub IsKnown : List Entry → ConEnv → Type 0
-IsKnown known env = (names : List (ConName × (ℕ × Normal))) × Agrees (declared known []) names × (known_in env ≡ known_so env.home names)
+abbrev pub IsKnown : List (ConName × (ℕ × Held)) → ConEnv → Type 0
+IsKnown known env = (names : List (ConName × (ℕ × Normal))) × Agrees known names × (known_in env ≡ known_so env.home names)

@@ -14,11 +14,13 @@ pub struct Entry {
     pub held: Held,
 }
 
-/// The names in scope: those of the environment, in order of binding, and the latest one that a function binds, with what
-/// it stands for and the number of functions that this stands within, over the names before it.
+/// The names in scope: those of the environment, in order of binding, further ones over the names before them, and the
+/// latest one that a function binds, with what it stands for and the number of functions that this stands within, over the
+/// names before it.
 #[derive(Clone, Copy)]
 pub enum Names<'a> {
     Declared(&'a [Entry]),
+    Over(&'a [Entry], &'a Names<'a>),
     Bound(&'a Text, u32, &'a Held, &'a Names<'a>),
 }
 
@@ -92,6 +94,10 @@ fn looked_up<'a>(names: &Names<'a>, key: &Key) -> Option<Found<'a>>
 {
     match names {
         Names::Declared(entries) => declared_as(entries, key),
+        Names::Over(entries, rest) => match declared_as(entries, key) {
+            Some(found) => Some(found),
+            None => looked_up(rest, key),
+        },
         Names::Bound(x, depth, held, rest) => {
             if names_bound(key, x) {
                 return Some(Found {
