@@ -193,42 +193,42 @@ module _ {I K : Type 0} (p : Language I K) where
 -- ---- over a table
 
 -- The bodies of the first instances are unfolded, as many as this number says.
-pub record Along {S P I K : Type 0} (language : S → Language I K) (instances : S → List K) (stands : S → P → I → Type 0) (first now : S) (number : ℕ) (made : List Term) (room : ℕ) : Type 0 where
-  pub lasts : Lasts language instances stands first now
-  pub working : Different (instances first) → Working (language first) (instances first) (instances now) made room × (length made ≡ number)
+pub record Along {S P I K : Type 0} (language : S → Language I K) (instances : S → List K) (stands : S → P → I → Type 0) (sound : S → Type 0) (first now : S) (number : ℕ) (made : List Term) (room : ℕ) : Type 0 where
+  pub lasts : Lasts language instances stands sound first now
+  pub working : sound first → Different (instances first) → Working (language first) (instances first) (instances now) made room × (length made ≡ number)
 
-module _ {S P I K : Type 0} (language : S → Language I K) (instances : S → List K) (stands : S → P → I → Type 0) where
-  module _ (old mid new : S) (room rest number : ℕ) (made : List Term) (q : P) (numbered : instances mid ≡ instances old) (before : Lasts language instances stands old mid)
-      (after : Lasts language instances stands mid new) (go : (k : K) → slice_get (instances old) number ≡ Some k → Embodies (language old) (stands mid) k (Ok q)) where
-    once : Different (instances old) → Different (instances new)
-    once d = after.once (before.once d)
+module _ {S P I K : Type 0} (language : S → Language I K) (instances : S → List K) (stands : S → P → I → Type 0) (sound : S → Type 0) where
+  module _ (old mid new : S) (room rest number : ℕ) (made : List Term) (q : P) (numbered : instances mid ≡ instances old) (before : Lasts language instances stands sound old mid)
+      (after : Lasts language instances stands sound mid new) (go : (k : K) → slice_get (instances old) number ≡ Some k → sound old → Embodies (language old) (stands mid) k (Ok q)) where
+    once : sound old → Different (instances old) → Different (instances new)
+    once s d = after.once (before.keeps s) (before.once s d)
 
     pub next_halts : (h : Halt) → ((i : I) → stands mid q i → OneMade (language mid) (state (instances mid) room) most_levels i (state (instances new) rest) (Err h))
-        → (roots : List K) → Working (language old) roots (instances old) made room → length made ≡ number → number < length (instances old) → Ends (language old) roots h
-    next_halts h one roots w count below =
+        → (roots : List K) → sound old → Working (language old) roots (instances old) made room → length made ≡ number → number < length (instances old) → Ends (language old) roots h
+    next_halts h one roots s w count below =
         let k = is_there (language old) roots (instances old) made room w number below in
-        let body = go k.0 k.1 in
+        let body = go k.0 k.1 s in
         ended (language old) roots (instances old) made room w number k.0 count k.1 body.0 body.1 (state (instances new) rest) h
         (subst (λ l. Halted (language old) (state l room) most_levels (body.0 ∷ []) (state (instances new) rest) h) numbered
-        (subst (λ p. Halted p (state (instances mid) room) most_levels (body.0 ∷ []) (state (instances new) rest) h) before.same (one body.0 body.2))) once
+        (subst (λ p. Halted p (state (instances mid) room) most_levels (body.0 ∷ []) (state (instances new) rest) h) before.same (one body.0 body.2))) (once s)
 
     pub next_made : (a : Term) → ((i : I) → stands mid q i → OneMade (language mid) (state (instances mid) room) most_levels i (state (instances new) rest) (Ok a))
-        → (roots : List K) → Working (language old) roots (instances old) made room → length made ≡ number → number < length (instances old)
+        → (roots : List K) → sound old → Working (language old) roots (instances old) made room → length made ≡ number → number < length (instances old)
         → Working (language old) roots (instances new) (made ++ a ∷ []) rest × (length (made ++ a ∷ []) ≡ suc (length made))
-    next_made a one roots w count below =
+    next_made a one roots s w count below =
         let k = is_there (language old) roots (instances old) made room w number below in
-        let body = go k.0 k.1 in (
+        let body = go k.0 k.1 s in (
           stepped (language old) roots (instances old) made room w number k.0 count k.1 body.0 body.1 (state (instances new) rest) a
               (subst (λ l. Made (language old) (state l room) most_levels (body.0 ∷ []) (state (instances new) rest) (a ∷ [])) numbered
-              (subst (λ p. Made p (state (instances mid) room) most_levels (body.0 ∷ []) (state (instances new) rest) (a ∷ [])) before.same (one body.0 body.2))) once,
+              (subst (λ p. Made p (state (instances mid) room) most_levels (body.0 ∷ []) (state (instances new) rest) (a ∷ [])) before.same (one body.0 body.2))) (once s),
           length_last made a,
         )
 
-  pub no_body : (old mid : S) (number room : ℕ) (made : List Term) (h : Halt) → ((k : K) → slice_get (instances old) number ≡ Some k → Embodies (language old) (stands mid) k (Err h))
-      → (roots : List K) → Working (language old) roots (instances old) made room → number < length (instances old) → Ends (language old) roots h
-  no_body old mid number room made h go roots w below =
+  pub no_body : (old mid : S) (number room : ℕ) (made : List Term) (h : Halt) → ((k : K) → slice_get (instances old) number ≡ Some k → sound old → Embodies (language old) (stands mid) k (Err h))
+      → (roots : List K) → sound old → Working (language old) roots (instances old) made room → number < length (instances old) → Ends (language old) roots h
+  no_body old mid number room made h go roots s w below =
       let k = is_there (language old) roots (instances old) made room w number below in
-      by h (go k.0 k.1)
+      by h (go k.0 k.1 s)
     where
       by : (h : Halt) → Embodies (language old) (stands mid) (is_there (language old) roots (instances old) made room w number below).0 (Err h) → Ends (language old) roots h
       by halt.Nodes g = absurd g
@@ -238,37 +238,37 @@ module _ {S P I K : Type 0} (language : S → Language I K) (instances : S → L
 
   -- ---- the loop
 
-  pub along_first : (first : S) → Along language instances stands first first 0 [] most_nodes
-  along_first first = record { lasts = lasts_so language instances stands first; working = λ d. (begun (language first) (instances first) d, refl) }
+  pub along_first : (first : S) → Along language instances stands sound first first 0 [] most_nodes
+  along_first first = record { lasts = lasts_so language instances stands sound first; working = λ s d. (begun (language first) (instances first) d, refl) }
 
-  pub along_more : (first mid new : S) (number room rest : ℕ) (made more : List Term) → Along language instances stands first mid number made room → number < length (instances mid)
-      → Lasts language instances stands mid new
-      → ((roots : List K) → Working (language mid) roots (instances mid) made room → length made ≡ number → number < length (instances mid)
-      → Steps (language mid) roots (instances new) made more rest (Ok tt)) → Along language instances stands first new (suc number) more rest
+  pub along_more : (first mid new : S) (number room rest : ℕ) (made more : List Term) → Along language instances stands sound first mid number made room → number < length (instances mid)
+      → Lasts language instances stands sound mid new
+      → ((roots : List K) → sound mid → Working (language mid) roots (instances mid) made room → length made ≡ number → number < length (instances mid)
+      → Steps (language mid) roots (instances new) made more rest (Ok tt)) → Along language instances stands sound first new (suc number) more rest
   along_more first mid new number room rest made more a below lasts go = record {
-    lasts = lasts_then language instances stands first mid new a.lasts lasts;
-    working = λ d.
-        let w = a.working d in
-        let g = go (instances first) (subst (λ p. Working p (instances first) (instances mid) made room) (sym a.lasts.same) w.0) w.1 below in
+    lasts = lasts_then language instances stands sound first mid new a.lasts lasts;
+    working = λ s d.
+        let w = a.working s d in
+        let g = go (instances first) (a.lasts.keeps s) (subst (λ p. Working p (instances first) (instances mid) made room) (sym a.lasts.same) w.0) w.1 below in
         (subst (λ p. Working p (instances first) (instances new) more rest) a.lasts.same g.0, g.1 ∙ ap suc w.1);
   }
 
-  pub along_ends : (first mid new : S) (number room rest : ℕ) (made more : List Term) (h : Halt) → Along language instances stands first mid number made room → number < length (instances mid)
-      → ((roots : List K) → Working (language mid) roots (instances mid) made room → length made ≡ number → number < length (instances mid)
-      → Steps (language mid) roots (instances new) made more rest (Err h)) → Different (instances first) → Ends (language first) (instances first) h
-  along_ends first mid new number room rest made more h a below go d =
-      let w = a.working d in
+  pub along_ends : (first mid new : S) (number room rest : ℕ) (made more : List Term) (h : Halt) → Along language instances stands sound first mid number made room → number < length (instances mid)
+      → ((roots : List K) → sound mid → Working (language mid) roots (instances mid) made room → length made ≡ number → number < length (instances mid)
+      → Steps (language mid) roots (instances new) made more rest (Err h)) → sound first → Different (instances first) → Ends (language first) (instances first) h
+  along_ends first mid new number room rest made more h a below go s d =
+      let w = a.working s d in
       subst (λ p. Ends p (instances first) h) a.lasts.same
-      (go (instances first) (subst (λ p. Working p (instances first) (instances mid) made room) (sym a.lasts.same) w.0) w.1 below)
+      (go (instances first) (a.lasts.keeps s) (subst (λ p. Working p (instances first) (instances mid) made room) (sym a.lasts.same) w.0) w.1 below)
 
-  pub along_done : (first now : S) (number room : ℕ) (made : List Term) → Along language instances stands first now number made room → number ≤ most_instances
-      → length (instances now) ≤ number → Different (instances first) → AllUnfolded (language first) (instances first) (instances now) made
-  along_done first now number room made a few ends d =
-      let w = a.working d in
+  pub along_done : (first now : S) (number room : ℕ) (made : List Term) → Along language instances stands sound first now number made room → number ≤ most_instances
+      → length (instances now) ≤ number → sound first → Different (instances first) → AllUnfolded (language first) (instances first) (instances now) made
+  along_done first now number room made a few ends s d =
+      let w = a.working s d in
       finished (language first) (instances first) (instances now) made room w.0 number w.1 few ends
 
-  pub along_full : (first now : S) (number room : ℕ) (made : List Term) → Along language instances stands first now number made room → most_instances < length (instances now)
-      → Different (instances first) → Ends (language first) (instances first) halt.Instances
-  along_full first now number room made a more d =
-      let w = a.working d in
+  pub along_full : (first now : S) (number room : ℕ) (made : List Term) → Along language instances stands sound first now number made room → most_instances < length (instances now)
+      → sound first → Different (instances first) → Ends (language first) (instances first) halt.Instances
+  along_full first now number room made a more s d =
+      let w = a.working s d in
       too_many (language first) (instances first) (instances now) made room w.0 more

@@ -52,8 +52,9 @@ abbrev pub ShowsIt : {P I K : Type 0} → Language I K → (P → I → Type 0) 
 ShowsIt p stands old new i (Ok o) = Shown p stands old new i o × (o.head ≢ head.Same)
 ShowsIt p stands old new i (Err h) = Stops p old new i h
 
--- The language stays, what stands for an expression does so on, and the instances are each there once.
-pub record Lasts {S P I K : Type 0} (language : S → Language I K) (instances : S → List K) (stands : S → P → I → Type 0) (old new : S) : Type 0 where
+-- The language stays, what stands for an expression does so on, and a sound table stays sound, its instances being each there once.
+pub record Lasts {S P I K : Type 0} (language : S → Language I K) (instances : S → List K) (stands : S → P → I → Type 0) (sound : S → Type 0) (old new : S) : Type 0 where
   pub same : language new ≡ language old
   pub stays : (q : P) (i : I) → stands old q i → stands new q i
-  pub once : Different (instances old) → Different (instances new)
+  pub keeps : sound old → sound new
+  pub once : sound old → Different (instances old) → Different (instances new)

@@ -24,16 +24,19 @@ pub trait Table {
 
     ghost stands: { Self → Self.Piece → Item → Type 0 };
 
+    /// What holds of a table whose instances are told apart. A piece may stand for an expression in such a table alone.
+    ghost sound: { Self → Type 0 };
+
     /// The form of an expression. What it calls is numbered.
     fn form(&mut self, alloc: Global, piece: &Self::Piece) -> Result<Opened<Self::Piece>, Halt>
         ensures form { (i : Item) → stands self.old piece.now i → OpensTo (language self.old) (stands self.new) (instances self.old) (instances self.new) i result }
-        ensures lasts { Lasts language instances stands self.old self.new };
+        ensures lasts { Lasts language instances stands sound self.old self.new };
 
     /// What the body of the instance with this number is.
     fn body(&mut self, alloc: Global, number: u32) -> Result<Self::Piece, Halt>
-        ensures body { (k : Instance) → slice_get (instances self.old) number ≡ Some k → Embodies (language self.old) (stands self.new) k result }
+        ensures body { (k : Instance) → slice_get (instances self.old) number ≡ Some k → sound self.old → Embodies (language self.old) (stands self.new) k result }
         ensures numbered { instances self.new ≡ instances self.old }
-        ensures lasts { Lasts language instances stands self.old self.new };
+        ensures lasts { Lasts language instances stands sound self.old self.new };
 
     /// Whether there is an instance with this number.
     fn has(&self, number: u32) -> bool

@@ -53,9 +53,9 @@ node-returns-clause-made g t c =
 
 pub terms_of-loop-place-init : goal.terms_of-loop-place-init
 terms_of-loop-place-init g t c = (
-  subst (SoFar g.T.Table.language g.T.Table.instances g.T.Table.stands c.args.table.now c.args.room.now c.args.levels c.args.parts.now 0 c.args.table.now c.args.room.now)
+  subst (SoFar g.T.Table.language g.T.Table.instances g.T.Table.stands g.T.Table.sound c.args.table.now c.args.room.now c.args.levels c.args.parts.now 0 c.args.table.now c.args.room.now)
       (sym c.new-made.ensures)
-      (none_made g.T.Table.language g.T.Table.instances g.T.Table.stands c.args.table.now c.args.room.now c.args.levels c.args.parts.now),
+      (none_made g.T.Table.language g.T.Table.instances g.T.Table.stands g.T.Table.sound c.args.table.now c.args.room.now c.args.levels c.args.parts.now),
   ap length c.as_slice-pieces.ensures,
 )
 
@@ -67,7 +67,7 @@ terms_of-returns-in_err-push_term-clause-made g t c =
     exit (λ r. AllMade (g.T.Table.language c.args.table.now) (state (g.T.Table.instances c.args.table.now) c.args.room.now) c.args.levels is
     (state (g.T.Table.instances c.push_term.new.table) c.push_term.new.room) r)
     c.from_residual.result c.in_err-push_term.field-0.0 c.from_residual.ensures.1
-    (one_halts g.T.Table.language g.T.Table.instances g.T.Table.stands c.args.table.now c.loop-place.table c.push_term.new.table c.args.room.now c.args.levels c.loop-place.room
+    (one_halts g.T.Table.language g.T.Table.instances g.T.Table.stands g.T.Table.sound c.args.table.now c.loop-place.table c.push_term.new.table c.args.room.now c.args.levels c.loop-place.room
     c.push_term.new.room c.loop-place.place c.args.parts.now c.index-pieces-place.result c.loop-place.made c.push_term.new.made c.in_err-push_term.field-0.0
     c.loop-place.invariant.0 at c.in_err-push_term.ensures.made is zip)
 
@@ -76,10 +76,10 @@ terms_of-loop-place-preserved g t c =
     let at : slice_get c.args.parts.now c.loop-place.place ≡ Some c.index-pieces-place.result =
     element c.args.parts.now c.as_slice-pieces.result.now c.loop-place.place c.index-pieces-place.result c.as_slice-pieces.ensures c.loop-place-test.true c.index-pieces-place.is in
     let next : suc c.loop-place.place ≡ c.loop-place.place + 1 = omega arith in (
-      subst (λ k. SoFar g.T.Table.language g.T.Table.instances g.T.Table.stands c.args.table.now c.args.room.now c.args.levels c.args.parts.now k c.push_term.new.table
+      subst (λ k. SoFar g.T.Table.language g.T.Table.instances g.T.Table.stands g.T.Table.sound c.args.table.now c.args.room.now c.args.levels c.args.parts.now k c.push_term.new.table
           c.push_term.new.room c.push_term.new.made)
           next
-          (more_made g.T.Table.language g.T.Table.instances g.T.Table.stands c.args.table.now c.loop-place.table c.push_term.new.table c.args.room.now c.args.levels c.loop-place.room
+          (more_made g.T.Table.language g.T.Table.instances g.T.Table.stands g.T.Table.sound c.args.table.now c.loop-place.table c.push_term.new.table c.args.room.now c.args.levels c.loop-place.room
           c.push_term.new.room c.loop-place.place c.args.parts.now c.index-pieces-place.result c.loop-place.made c.push_term.new.made c.loop-place.invariant.0 at
           c.push_term.ensures.lasts c.in_ok-push_term.ensures.made),
       c.loop-place.invariant.1,
@@ -88,5 +88,5 @@ terms_of-loop-place-preserved g t c =
 pub terms_of-returns-clause-made : goal.terms_of-returns-clause-made
 terms_of-returns-clause-made g t c =
     let whole : c.loop-place.place ≡ length c.args.parts.now = omega (arith, c.loop-place-test.false, c.loop-place.auto.place-end, c.loop-place.invariant.1) in
-    all_made g.T.Table.language g.T.Table.instances g.T.Table.stands c.args.table.now c.loop-place.table c.args.room.now c.args.levels c.loop-place.room c.loop-place.place
+    all_made g.T.Table.language g.T.Table.instances g.T.Table.stands g.T.Table.sound c.args.table.now c.loop-place.table c.args.room.now c.args.levels c.loop-place.room c.loop-place.place
     c.args.parts.now c.loop-place.made c.loop-place.invariant.0 whole

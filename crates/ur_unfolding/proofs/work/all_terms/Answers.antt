@@ -4,8 +4,8 @@ use Rattle.ur_unfolding.proofs.work.all_terms.Goals as goal
 
 pub loop-number-init : goal.loop-number-init
 loop-number-init g c =
-    subst (λ made. Along g.T.Table.language g.T.Table.instances g.T.Table.stands c.args.table.now c.args.table.now 0 made 1000000) (sym c.new-made.ensures)
-    (along_first g.T.Table.language g.T.Table.instances g.T.Table.stands c.args.table.now)
+    subst (λ made. Along g.T.Table.language g.T.Table.instances g.T.Table.stands g.T.Table.sound c.args.table.now c.args.table.now 0 made 1000000) (sym c.new-made.ensures)
+    (along_first g.T.Table.language g.T.Table.instances g.T.Table.stands g.T.Table.sound c.args.table.now)
 
 pub returns-then-not-has-clause-made : goal.returns-then-not-has-clause-made
 returns-then-not-has-clause-made g c =
@@ -13,7 +13,7 @@ returns-then-not-has-clause-made g c =
     let table = c.loop-number.table in
     let no : ¬ (number < length (g.T.Table.instances table)) = search rules in
     let few : number ≤ 4096 = omega (arith, c.loop-number-test.true) in
-    along_done g.T.Table.language g.T.Table.instances g.T.Table.stands c.args.table.now table number c.loop-number.room c.loop-number.made c.loop-number.invariant few
+    along_done g.T.Table.language g.T.Table.instances g.T.Table.stands g.T.Table.sound c.args.table.now table number c.loop-number.room c.loop-number.made c.loop-number.invariant few
     (not_less number (length (g.T.Table.instances table)) no)
 
 pub returns-clause-made : goal.returns-clause-made
@@ -24,4 +24,4 @@ returns-clause-made g c =
     let ends : length (g.T.Table.instances table) ≤ 4096 = not_less 4096 (length (g.T.Table.instances table)) no in
     let few : number ≤ 4096 = omega (arith, c.loop-number.auto.number-end) in
     let less : length (g.T.Table.instances table) ≤ number = omega (arith, ends, c.loop-number-test.false) in
-    along_done g.T.Table.language g.T.Table.instances g.T.Table.stands c.args.table.now table number c.loop-number.room c.loop-number.made c.loop-number.invariant few less
+    along_done g.T.Table.language g.T.Table.instances g.T.Table.stands g.T.Table.sound c.args.table.now table number c.loop-number.room c.loop-number.made c.loop-number.invariant few less
