@@ -11,6 +11,7 @@ mod names;
 mod outcome;
 mod pats;
 mod printer;
+mod projects;
 mod reading;
 mod sql;
 mod subject;

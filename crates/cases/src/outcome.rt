@@ -1,42 +1,66 @@
 //! What comes of a text, in the lines that a case wants.
 use crate::printer::Printer;
+use crate::projects::{put_place, step_outcome};
 use crate::reading::read;
-use crate::subject::Subject;
+use crate::subject::{Part, Subject};
 use std::alloc::Global;
 use ur_base::{Memory, Refusal, Stop, Text};
 
-/// The tree and what stands behind it, or the refusal with its place and the token there.
+/// The tree and what stands behind it or `ok`; or the refusal with its place.
 pub fn outcome(alloc: Global, subject: Subject, text: &str) -> Result<Text, Memory> {
     let mut p = Printer::new(alloc);
-    p.put(b"=");
-    match read(alloc, subject, text, &mut p) {
-        Ok(rest) => {
-            if !rest.is_empty() {
-                p.put(b"\n+ ");
-                p.put(rest.as_bytes());
-            }
-            p.finish()
-        }
-        Err(Stop::Refused(refusal)) => refused(alloc, text, &refusal),
-        Err(Stop::Memory) => {
-            let mut p = Printer::new(alloc);
-            p.put(b"! memory");
-            p.finish()
-        }
+    let came = match subject {
+        Subject::Part(part) => part_outcome(alloc, part, text, &mut p),
+        Subject::Step(step) => step_outcome(alloc, step, text, &mut p),
+    };
+    match came {
+        Ok(()) => p.finish(),
+        Err(stop) => stopped(alloc, subject, text, &stop),
     }
 }
 
-/// The place in bytes from 0, and the text there. A refusal that stands in another file than the text's stands nowhere.
-fn refused(alloc: Global, text: &str, refusal: &Refusal) -> Result<Text, Memory> {
+/// Puts the tree of a text and what stands behind it.
+fn part_outcome(alloc: Global, part: Part, text: &str, p: &mut Printer) -> Result<(), Stop> {
+    p.put(b"=");
+    let rest = read(alloc, part, text, p)?;
+    if !rest.is_empty() {
+        p.put(b"\n+ ");
+        p.put(rest.as_bytes());
+    }
+    Ok(())
+}
+
+/// A refusal with its code and its place, or want of memory.
+fn stopped(alloc: Global, subject: Subject, text: &str, stop: &Stop) -> Result<Text, Memory> {
     let mut p = Printer::new(alloc);
-    p.put(b"! E");
-    if refusal.code < 10 {
+    p.put(b"! ");
+    match stop {
+        Stop::Memory => p.put(b"memory"),
+        Stop::Refused(refusal) => {
+            put_code(refusal.code, &mut p);
+            match subject {
+                Subject::Part(_) => put_bytes(text, refusal, &mut p),
+                Subject::Step(_) => put_place(text, refusal, &mut p),
+            }
+        }
+    }
+    p.finish()
+}
+
+fn put_code(code: u8, p: &mut Printer) {
+    p.put(b"E");
+    if code < 10 {
         p.put(b"0");
     }
-    p.count(u64::from(refusal.code));
+    p.count(u64::from(code));
+}
+
+/// Puts the place in bytes from 0, and the text there. A refusal that stands in another file than the text's stands
+/// nowhere.
+fn put_bytes(text: &str, refusal: &Refusal, p: &mut Printer) {
     if refusal.span.file == 0 {
         p.put(b" nowhere");
-        return p.finish();
+        return;
     }
     p.put(b" ");
     p.count(u64::from(refusal.span.from));
@@ -46,5 +70,4 @@ fn refused(alloc: Global, text: &str, refusal: &Refusal) -> Result<Text, Memory>
         p.put(b" ");
         p.put(there.as_bytes());
     }
-    p.finish()
 }

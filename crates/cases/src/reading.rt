@@ -7,7 +7,7 @@ use crate::names::{binder, field};
 use crate::pats::pat;
 use crate::printer::Printer;
 use crate::sql::{change, query, sexp};
-use crate::subject::Subject;
+use crate::subject::Part;
 use std::alloc::Global;
 use ur_base::Stop;
 use ur_grammar::{Parsed, sees, unexpected};
@@ -32,17 +32,22 @@ const LONGEST: usize = 1048576;
 /// Puts the tree of a text, and gives what stands behind it.
 pub fn read<'a>(
     alloc: Global,
-    subject: Subject,
+    part: Part,
     text: &'a str,
     p: &mut Printer,
 ) -> Result<&'a str, Stop> {
+    let tokens = tokens_of(alloc, 1, text)?;
+    let end = read_tokens(alloc, part, text, &tokens, p)?;
+    Ok(from_token(text, &tokens, end))
+}
+
+/// The tokens of the file with this number.
+pub fn tokens_of(alloc: Global, file: u32, text: &str) -> Result<Tokens, Stop> {
     let bytes = text.as_bytes();
     if bytes.len() > LONGEST {
         return Err(Stop::Memory);
     }
-    let tokens = lex(alloc, 1, bytes)?;
-    let end = read_tokens(alloc, subject, text, &tokens, p)?;
-    Ok(from_token(text, &tokens, end))
+    lex(alloc, file, bytes)
 }
 
 /// The text from a token on.
@@ -57,30 +62,30 @@ fn from_token<'a>(text: &'a str, tokens: &Tokens, at: usize) -> &'a str {
 /// Puts the tree of tokens, and gives the place behind it.
 fn read_tokens(
     alloc: Global,
-    subject: Subject,
+    part: Part,
     text: &str,
     tokens: &Tokens,
     p: &mut Printer,
 ) -> Result<usize, Stop> {
-    match subject {
-        Subject::Kind => kind_in(alloc, tokens, p),
-        Subject::Con => con_in(alloc, tokens, ConPlace::Plain, p),
-        Subject::ConBeside => con_in(alloc, tokens, ConPlace::Beside, p),
-        Subject::ConBeforeKeys => con_in(alloc, tokens, ConPlace::BeforeKeys, p),
-        Subject::ConParam => con_param_in(alloc, tokens, p),
-        Subject::Param => param_in(alloc, tokens, p),
-        Subject::Binder => binder_in(alloc, tokens, p),
-        Subject::Pat => pat_in(alloc, tokens, p),
-        Subject::Removed => removed_in(alloc, tokens, p),
-        Subject::Exp => exp_in(alloc, tokens, p),
-        Subject::Sql => sexp_in(alloc, text, tokens, false, p),
-        Subject::SqlBare => sexp_in(alloc, text, tokens, true, p),
-        Subject::Query => query_in(alloc, text, tokens, p),
-        Subject::Change => change_in(alloc, text, tokens, p),
-        Subject::Xml => xml_in(alloc, text, tokens, p),
-        Subject::Decl => decl_in(alloc, tokens, p),
-        Subject::Signature => signature_in(alloc, tokens, p),
-        Subject::Module => module_in(alloc, tokens, p),
+    match part {
+        Part::Kind => kind_in(alloc, tokens, p),
+        Part::Con => con_in(alloc, tokens, ConPlace::Plain, p),
+        Part::ConBeside => con_in(alloc, tokens, ConPlace::Beside, p),
+        Part::ConBeforeKeys => con_in(alloc, tokens, ConPlace::BeforeKeys, p),
+        Part::ConParam => con_param_in(alloc, tokens, p),
+        Part::Param => param_in(alloc, tokens, p),
+        Part::Binder => binder_in(alloc, tokens, p),
+        Part::Pat => pat_in(alloc, tokens, p),
+        Part::Removed => removed_in(alloc, tokens, p),
+        Part::Exp => exp_in(alloc, tokens, p),
+        Part::Sql => sexp_in(alloc, text, tokens, false, p),
+        Part::SqlBare => sexp_in(alloc, text, tokens, true, p),
+        Part::Query => query_in(alloc, text, tokens, p),
+        Part::Change => change_in(alloc, text, tokens, p),
+        Part::Xml => xml_in(alloc, text, tokens, p),
+        Part::Decl => decl_in(alloc, tokens, p),
+        Part::Signature => signature_in(alloc, tokens, p),
+        Part::Module => module_in(alloc, tokens, p),
     }
 }
 

@@ -1,7 +1,14 @@
-//! What a text is to be read as.
+//! What a text is to be read as, or what is asked of the project that it is.
 
 #[derive(Clone, Copy, Debug)]
 pub enum Subject {
+    Part(Part),
+    Step(Step),
+}
+
+/// A part of the grammar.
+#[derive(Clone, Copy, Debug)]
+pub enum Part {
     Kind,
     Con,
     /// beside `~`, where a field may stand alone
@@ -26,29 +33,44 @@ pub enum Subject {
     Module,
 }
 
+/// A step of the compiler over a whole project.
+#[derive(Clone, Copy, Debug)]
+pub enum Step {
+    Names,
+    Kinds,
+}
+
 impl Subject {
     /// What a word names.
     pub fn of_word(word: &str) -> Option<Subject> {
         match word {
-            "kind" => Some(Subject::Kind),
-            "con" => Some(Subject::Con),
-            "con-beside" => Some(Subject::ConBeside),
-            "con-before-keys" => Some(Subject::ConBeforeKeys),
-            "con-param" => Some(Subject::ConParam),
-            "param" => Some(Subject::Param),
-            "binder" => Some(Subject::Binder),
-            "pat" => Some(Subject::Pat),
-            "removed" => Some(Subject::Removed),
-            "exp" => Some(Subject::Exp),
-            "sql" => Some(Subject::Sql),
-            "sql-bare" => Some(Subject::SqlBare),
-            "query" => Some(Subject::Query),
-            "change" => Some(Subject::Change),
-            "xml" => Some(Subject::Xml),
-            "decl" => Some(Subject::Decl),
-            "signature" => Some(Subject::Signature),
-            "module" => Some(Subject::Module),
-            _ => None,
+            "names" => Some(Subject::Step(Step::Names)),
+            "kinds" => Some(Subject::Step(Step::Kinds)),
+            _ => part_of_word(word),
         }
+    }
+}
+
+fn part_of_word(word: &str) -> Option<Subject> {
+    match word {
+        "kind" => Some(Subject::Part(Part::Kind)),
+        "con" => Some(Subject::Part(Part::Con)),
+        "con-beside" => Some(Subject::Part(Part::ConBeside)),
+        "con-before-keys" => Some(Subject::Part(Part::ConBeforeKeys)),
+        "con-param" => Some(Subject::Part(Part::ConParam)),
+        "param" => Some(Subject::Part(Part::Param)),
+        "binder" => Some(Subject::Part(Part::Binder)),
+        "pat" => Some(Subject::Part(Part::Pat)),
+        "removed" => Some(Subject::Part(Part::Removed)),
+        "exp" => Some(Subject::Part(Part::Exp)),
+        "sql" => Some(Subject::Part(Part::Sql)),
+        "sql-bare" => Some(Subject::Part(Part::SqlBare)),
+        "query" => Some(Subject::Part(Part::Query)),
+        "change" => Some(Subject::Part(Part::Change)),
+        "xml" => Some(Subject::Part(Part::Xml)),
+        "decl" => Some(Subject::Part(Part::Decl)),
+        "signature" => Some(Subject::Part(Part::Signature)),
+        "module" => Some(Subject::Part(Part::Module)),
+        _ => None,
     }
 }
