@@ -1,11 +1,10 @@
 -- The definitions at the constructors that code matches and makes.
-use Rattle.std.proofs.Common.{◌≡◌, ◌∙◌, refl, ap, ℕ, List, [], ◌∷◌, Option, Some}
-use mathlib.Core.Former.{Count}
+use Rattle.std.proofs.Common.{◌≡◌, ◌∙◌, refl, ap, List, [], ◌∷◌, Some}
 use Rattle.ur_base.specs.Shape.{Shape, count}
 use Rattle.ur_syntax.specs.declared.xml.Tag.{Tag as WrittenTag}
 use Rattle.ur_syntax.specs.declared.xml.Attr.{Attr}
 use Rattle.ur_syntax.specs.declared.xml.XmlPart.{XmlPart}
-use Rattle.ur_syntax.specs.declared.xml.XmlForm.{Row_of-XmlPart, end_of-XmlPart, more_of-XmlPart, items-the_row-XmlPart}
+use Rattle.ur_syntax.specs.declared.xml.XmlForm.{Row_of-XmlPart, more_of-XmlPart, items-the_row-XmlPart}
 use Rattle.ur_syntax.specs.declared.xml.XmlForm.TheBlock as X
 use Rattle.ur_syntax.specs.declared.xml.XmlForm.TheVariants as form
 use Rattle.ur_rows.specs.declared.normal.Part.{Part}
@@ -13,7 +12,7 @@ use Rattle.ur_rows.specs.declared.normal.NormalType.TheVariants as ty
 use Rattle.ur_rows.proofs.Shapes.{form-made}
 use Rattle.ur_rows.proofs.Order.{parts-row}
 use Rattle.ur_type_words.specs.Places.{sort_of, fields, fields_found}
-use Rattle.ur_xmltype.specs.Literal.{word_of, row_of_parts}
+use Rattle.ur_xmltype.specs.Literal.{row_of_parts}
 
 pub sort_of-Form : (r : List Part) → sort_of (ty.Form r) ≡ Some fields
 sort_of-Form r = ap sort_of (form-made r)

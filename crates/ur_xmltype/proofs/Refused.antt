@@ -1,13 +1,8 @@
 -- What is refused has no answer.
-use Rattle.std.proofs.Common.{◌≡◌, ◌∙◌, refl, ap, true, false, Bool, List, Option, Some, None}
+use Rattle.std.proofs.Common.{ap}
 use Rattle.std.specs.Prelude.{is_none}
-use Rattle.ur_base.specs.declared.refusal.Refusal.{Refusal}
-use Rattle.ur_syntax.specs.declared.xml.Tag.{Tag as WrittenTag}
-use Rattle.ur_syntax.specs.declared.xml.Attr.{Attr}
-use Rattle.ur_rows.specs.declared.normal.Label.{Label}
-use Rattle.ur_type_words.specs.Places.{Place}
-use Rattle.ur_xmltype.specs.Tags.{if_so, repeated, node_by, node_with, tag_of}
-use Rattle.ur_xmltype.specs.Faults.{IsBadTag, twice, misplaced}
+use Rattle.ur_xmltype.specs.Tags.{if_so, node_by, tag_of}
+use Rattle.ur_xmltype.specs.Faults.{twice, misplaced}
 use Rattle.ur_xmltype.specs.Laws.{BadTagIsNone, BadFrameIsNone}
 
 pub bad_tag-none : BadTagIsNone

@@ -1,7 +1,6 @@
 -- What is asked of the text and the splices of a literal of XML, its sort, and the frame of a page.
 use Rattle.std.specs.Prelude.{ℕ, ◌&&◌, ◌||◌, ◌==◌, not, Bool, true, false, if◌then◌else◌, List, [], ◌∷◌, codes, Option, Some, None, is_none, option_map, bytes_eq}
 use Rattle.std.specs.List.{list_all}
-use mathlib.Core.Former.{Count}
 use Rattle.ur_base.specs.Shape.{Shape, count}
 use Rattle.ur_syntax.specs.declared.xml.XmlPart.{XmlPart}
 use Rattle.ur_syntax.specs.declared.xml.XmlForm.{XmlForm, Row_of-XmlPart, end_of-XmlPart as end, more_of-XmlPart as more, items-the_row-XmlPart}
@@ -10,7 +9,7 @@ use Rattle.ur_rows.specs.declared.normal.NormalType.{NormalType}
 use Rattle.ur_rows.specs.declared.normal.NormalType.TheVariants as ty
 use Rattle.ur_rows.specs.declared.normal.Part.{Part}
 use Rattle.ur_rows.specs.Made.{form_of}
-use Rattle.ur_type_words.specs.Places.{Place, holds_text, holds_fields, drops_blank, place_type, Sort, page, body, table, row, fields, sort_of, fields_found}
+use Rattle.ur_type_words.specs.Places.{Place, holds_text, holds_fields, drops_blank, place_type, Sort, page, body, table, row, fields, sort_of}
 use Rattle.ur_xmltype.specs.Tags.{field_of}
 
 -- ---- text

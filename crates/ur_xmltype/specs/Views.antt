@@ -1,7 +1,6 @@
 -- The places, sorts, kinds of attributes and tags of the code, as the definitions have them.
-use Rattle.std.specs.Prelude.{ℕ, List, [], ◌∷◌, Option}
+use Rattle.std.specs.Prelude.{ℕ, List, [], ◌∷◌}
 use Rattle.std.specs.Option.{option_copied}
-use Rattle.ur_rows.specs.declared.normal.NormalType.{NormalType}
 use Rattle.ur_type_words.specs.Places.{Place, Sort}
 use Rattle.ur_type_words.specs.Places as places
 use Rattle.ur_xmltype.specs.declared.places.Place.{Place as CodePlace}

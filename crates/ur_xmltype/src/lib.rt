@@ -11,8 +11,6 @@ mod refusals;
 mod rows;
 mod sorts;
 mod splices;
-#[cfg(test)]
-mod tests;
 mod words;
 
 pub use frame::framed;

@@ -1,4 +1,4 @@
-use Rattle.std.proofs.Common.{[], ◌∷◌, List, map, subst}
+use Rattle.std.proofs.Common.{map, subst}
 use Rattle.ur_rows.specs.Apart.{Apart}
 use Rattle.ur_disjoint.specs.Tests.{pair}
 use Rattle.ur_xmltype.proofs.Meeting.{so_far-next}
