@@ -6,7 +6,7 @@ use std::test::Fail;
 use ur_io::{Failed, Wire, give};
 
 /// Two clients connect between `listen` and `next`: their connections wait to be accepted. The first sends nothing, and
-/// its read fails; the second is served.
+/// its read fails; the second is served. The port can then be listened on again at once.
 #[test]
 fn one_thread_is_enough(rt: HostRuntime) -> Result<(), Fail> {
     let mut wire = TcpWire::new(&rt, 0);
@@ -31,5 +31,8 @@ fn one_thread_is_enough(rt: HostRuntime) -> Result<(), Fail> {
     assert_eq!(rt; client.read(&mut got)?, 6);
     assert_eq!(rt; &got[..6], b"answer".as_slice());
     assert_eq!(rt; client.read(&mut got)?, 0);
+    drop(wire);
+    let mut again = TcpWire::new(&rt, address.port());
+    assert_eq!(rt; again.listen(), Ok(()));
     Ok(())
 }
