@@ -47,6 +47,7 @@ fn function_of(body: &Large) -> Large
 }
 
 /// A function with what is held for its body.
+#[inline(never)]
 fn function(alloc: Global, kind: &Kind, body: Held) -> Result<Held, Memory>
     ensures { IfOk result (λ h. (n : GhostNormal) → Holds body n → Holds h (normal.Fn' kind.now tt (the n sole))) }
 {
@@ -60,6 +61,7 @@ fn function(alloc: Global, kind: &Kind, body: Held) -> Result<Held, Memory>
 }
 
 /// A literal name.
+#[inline(never)]
 fn literal(alloc: Global, a: &Text) -> Result<Held, Memory>
     ensures { IfOk result (λ h. Holds h (normal.Name (label.Literal a.now))) }
 {
@@ -115,6 +117,7 @@ fn walk_fields(alloc: Global, scope: &Scope, con: &Con) -> Result<Fields, Memory
 
 /// A function that is not applied.
 #[cycle(walking)]
+#[inline(never)]
 fn walk_function(
     alloc: Global,
     scope: &Scope,
@@ -138,6 +141,7 @@ fn walk_function(
 
 /// A function applied to an argument and others.
 #[cycle(walking)]
+#[inline(never)]
 fn walk_given(
     alloc: Global,
     scope: &Scope,
@@ -160,6 +164,7 @@ fn walk_given(
 
 /// A row of fields.
 #[cycle(walking)]
+#[inline(never)]
 fn walk_row(alloc: Global, scope: &Scope, fields: &List<CField>) -> Result<Fields, Memory>
     ensures { IfOk result (λ f. (known : GhostKnown) → Tells scope.now known → RowIs f (parts_of known fields.now)) }
 {
@@ -173,6 +178,7 @@ fn walk_row(alloc: Global, scope: &Scope, fields: &List<CField>) -> Result<Field
 
 /// One field more, behind the others.
 #[cycle(walking)]
+#[inline(never)]
 fn walk_field(alloc: Global, scope: &Scope, field: &CField, row: Listed) -> Result<Listed, Memory>
     ensures { IfOk result (λ f. (known : GhostKnown) (r : GhostList GhostPart) → Tells scope.now known → ListedAs row r → ListedAs f (r ++ (nf_field known field.now ∷ []))) }
 {
@@ -191,6 +197,7 @@ fn walk_field(alloc: Global, scope: &Scope, field: &CField, row: Listed) -> Resu
 
 /// The row of a record of fields.
 #[cycle(walking)]
+#[inline(never)]
 fn walk_record(alloc: Global, scope: &Scope, fields: &List<RecordField>) -> Result<Fields, Memory>
     ensures { IfOk result (λ f. (known : GhostKnown) → Tells scope.now known → RowIs f (record_parts_of known fields.now)) }
 {
@@ -203,6 +210,7 @@ fn walk_record(alloc: Global, scope: &Scope, fields: &List<RecordField>) -> Resu
 }
 
 #[cycle(walking)]
+#[inline(never)]
 fn walk_record_field(
     alloc: Global,
     scope: &Scope,

@@ -174,6 +174,7 @@ pub fn form_of(f: Fields) -> Held
 }
 
 /// An arrow of types. There is no memory for one that is too high.
+#[inline(never)]
 pub fn arrow(alloc: Global, a: Option<NormalType>, b: Option<NormalType>) -> Result<Held, Memory>
     ensures { IfOk result (λ h. (s t : GhostType) → TypeIs a s → TypeIs b t → Holds h (normal.Type (arrow_of s t))) }
 {
@@ -196,6 +197,7 @@ pub fn arrow(alloc: Global, a: Option<NormalType>, b: Option<NormalType>) -> Res
 }
 
 /// `r ++ s`.
+#[inline(never)]
 pub fn union(alloc: Global, left: Fields, right: Fields) -> Result<Fields, Memory>
     ensures { IfOk result (λ f. (r s : GhostList GhostPart) → RowIs left r → RowIs right s → RowIs f (joined r s)) }
 {

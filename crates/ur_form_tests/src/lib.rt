@@ -1,0 +1,11 @@
+//! Tests of the highest and the widest normal forms, and of what is asked of forms: fields, instances and prepared scopes.
+#![tactic(auto)]
+
+#[cfg(test)]
+mod calls;
+#[cfg(test)]
+mod heights;
+#[cfg(test)]
+mod wide;
+#[cfg(test)]
+mod written;
