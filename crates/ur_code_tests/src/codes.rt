@@ -3,7 +3,7 @@ use std::alloc::Global;
 use ur_base::{List, Memory};
 use ur_code::Code;
 use ur_tags::Handlers;
-use ur_terms::{Function, Term};
+use ur_terms::Function;
 use ur_values::Schema;
 
 /// Code that has functions alone.
@@ -26,9 +26,8 @@ pub fn code_of(alloc: Global, functions: List<Function>) -> Code {
     }
 }
 
-/// A list of one term.
-pub fn one(alloc: Global, term: Term) -> Result<List<Term>, Memory> {
-    let mut terms = List::new(alloc);
-    terms.push(term)?;
-    Ok(terms)
+pub fn one<T: Drop>(alloc: Global, element: T) -> Result<List<T>, Memory> {
+    let mut list = List::new(alloc);
+    list.push(element)?;
+    Ok(list)
 }

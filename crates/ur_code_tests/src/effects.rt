@@ -1,47 +1,24 @@
 //! Routes that write and routes that do not, over code made by hand.
 use crate::codes::{code_of, one};
+use crate::written::{repeated, term};
 use std::alloc::Global;
-use ur_base::{Boxed, List, Memory, Stop, Text};
+use ur_base::{List, Memory, Refusal, Stop, Text};
 use ur_code::Code;
 use ur_effects::effects;
 use ur_tags::{Handlers, Route};
-use ur_terms::{Branch, Function, Op, Pattern, Term};
+use ur_terms::{Function, Term};
 use ur_types::ValueType;
 
-/// The body of a function.
-#[derive(Clone, Copy)]
-enum Body {
-    Nothing,
-    Calls(u32),
-    Changes,
-    Draws,
-    SetsCookie,
-    /// Has a link to route 0.
-    Links,
-}
-
-fn made(alloc: Global, op: Op) -> Term {
-    Term::Make(op, List::new(alloc))
-}
-
-fn body_of(alloc: Global, body: Body) -> Term {
-    match body {
-        Body::Nothing => Term::Int(0),
-        Body::Calls(number) => Term::Call(number, List::new(alloc)),
-        Body::Changes => made(alloc, Op::Write(0)),
-        Body::Draws => made(alloc, Op::Next(0)),
-        Body::SetsCookie => made(alloc, Op::SetCookie(0)),
-        Body::Links => made(alloc, Op::Link { route: 0, args: 0 }),
+fn name_of(alloc: Global, number: usize) -> Result<Text, Memory> {
+    match number {
+        0 => List::from_slice(alloc, b"Main.page"),
+        1 => List::from_slice(alloc, b"Main.mid"),
+        _ => List::from_slice(alloc, b"Main.tick"),
     }
 }
 
-/// The function of this number.
 fn function(alloc: Global, number: usize, body: Term) -> Result<Function, Memory> {
-    let name = match number {
-        0 => List::from_slice(alloc, b"Main.page")?,
-        1 => List::from_slice(alloc, b"Main.mid")?,
-        _ => List::from_slice(alloc, b"Main.tick")?,
-    };
+    let name = name_of(alloc, number)?;
     Ok(Function {
         name,
         params: List::new(alloc),
@@ -51,22 +28,39 @@ fn function(alloc: Global, number: usize, body: Term) -> Result<Function, Memory
     })
 }
 
-/// One route to function 0.
-fn handlers(alloc: Global, get: bool) -> Result<Handlers, Memory> {
-    let mut routes = List::new(alloc);
-    routes.push(Route {
-        module_name: List::from_slice(alloc, b"Main")?,
-        function_name: List::from_slice(alloc, b"page")?,
+/// The functions with these bodies, with a blank between two.
+fn functions(alloc: Global, bodies: &str) -> Result<List<Function>, Memory> {
+    let mut all = List::new(alloc);
+    for text in bodies.split_ascii_whitespace() {
+        let body = term(alloc, text.as_bytes())?;
+        let function = function(alloc, all.len(), body)?;
+        all.push(function)?;
+    }
+    Ok(all)
+}
+
+fn route(alloc: Global, get: bool) -> Result<Route, Memory> {
+    let module_name = List::from_slice(alloc, b"Main")?;
+    let function_name = List::from_slice(alloc, b"page")?;
+    Ok(Route {
+        module_name,
+        function_name,
         params: List::new(alloc),
         form: List::new(alloc),
         get,
         post: !get,
-    })?;
+    })
+}
+
+fn handlers(alloc: Global, get: bool) -> Result<Handlers, Memory> {
+    let route = route(alloc, get)?;
+    let routes = one(alloc, route)?;
     Ok(Handlers { routes })
 }
 
 /// Code with these functions and one route to the first.
-fn code(alloc: Global, get: bool, functions: List<Function>) -> Result<Code, Memory> {
+fn code(alloc: Global, get: bool, bodies: &str) -> Result<Code, Memory> {
+    let functions = functions(alloc, bodies)?;
     let handlers = handlers(alloc, get)?;
     let targets = List::from_slice(alloc, &[0])?;
     let mut code = code_of(alloc, functions);
@@ -75,174 +69,89 @@ fn code(alloc: Global, get: bool, functions: List<Function>) -> Result<Code, Mem
     Ok(code)
 }
 
-/// The two texts of the refusal, if there is one.
-fn texts(alloc: Global, code: &Code) -> Result<Option<(Text, Text)>, Memory> {
+/// Both texts with `: ` between them.
+fn both_texts(refusal: Refusal) -> Result<Text, Memory> {
+    let mut text = refusal.left;
+    text.extend_from_slice(b": ")?;
+    text.append(refusal.right)?;
+    Ok(text)
+}
+
+/// The texts of the refusal, or `none`.
+fn texts(alloc: Global, code: &Code) -> Result<Text, Memory> {
     match effects(alloc, code) {
-        Ok(()) => Ok(None),
+        Ok(()) => List::from_slice(alloc, b"none"),
+        Err(Stop::Memory) => Err(Memory),
         Err(Stop::Refused(refusal)) => {
             if refusal.code == 14 {
-                Ok(Some((refusal.left, refusal.right)))
+                both_texts(refusal)
             } else {
-                Err(Memory)
+                List::from_slice(alloc, b"another code")
             }
         }
-        Err(Stop::Memory) => Err(Memory),
     }
 }
 
-fn functions(alloc: Global, bodies: &[Body]) -> Result<List<Function>, Memory> {
-    let mut all = List::new(alloc);
-    for number in 0..bodies.len() {
-        all.push(function(alloc, number, body_of(alloc, bodies[number]))?)?;
-    }
-    Ok(all)
-}
-
-/// Whether functions with these bodies are refused with these texts.
-fn is_refused(alloc: Global, bodies: &[Body], left: &[u8], right: &[u8]) -> Result<bool, Memory> {
-    let code = code(alloc, true, functions(alloc, bodies)?)?;
-    match texts(alloc, &code)? {
-        None => Ok(false),
-        Some((chain, write)) => Ok(chain.as_slice() == left && write.as_slice() == right),
-    }
-}
-
-fn is_accepted(alloc: Global, get: bool, bodies: &[Body]) -> Result<bool, Memory> {
-    let code = code(alloc, get, functions(alloc, bodies)?)?;
-    Ok(texts(alloc, &code)?.is_none())
+/// Whether functions with these bodies are told of so, where the route answers GET or POST.
+fn is(alloc: Global, get: bool, bodies: &str, want: &[u8]) -> Result<bool, Memory> {
+    let code = code(alloc, get, bodies)?;
+    let text = texts(alloc, &code)?;
+    Ok(text.as_slice() == want)
 }
 
 #[test]
 fn a_chain_from_a_route_with_get_is_told_in_order(rt: HostRuntime) -> Result<(), Memory> {
     let alloc = rt.alloc();
-    let three = [Body::Calls(1), Body::Calls(2), Body::Changes];
-    assert!(rt; is_refused(alloc, &three, b"Main.page > Main.mid > Main.tick", b"dml")?);
-    assert!(rt; is_accepted(alloc, false, &three)?);
-    let draws = [Body::Calls(2), Body::Changes, Body::Draws];
-    assert!(rt; is_refused(alloc, &draws, b"Main.page > Main.tick", b"nextval")?);
-    assert!(rt; is_refused(alloc, &[Body::SetsCookie], b"Main.page", b"setCookie")?);
+    assert!(rt;
+        is(
+            alloc,
+            true,
+            "B C w",
+            b"Main.page > Main.mid > Main.tick: dml"
+        )?
+    );
+    assert!(rt; is(alloc, false, "B C w", b"none")?);
+    assert!(rt; is(alloc, true, "C w n", b"Main.page > Main.tick: nextval")?);
+    assert!(rt; is(alloc, true, "s", b"Main.page: setCookie")?);
     Ok(())
 }
 
 #[test]
 fn what_no_call_leads_to_is_accepted(rt: HostRuntime) -> Result<(), Memory> {
     let alloc = rt.alloc();
-    let turns = [Body::Calls(1), Body::Calls(0), Body::Changes];
-    assert!(rt; is_accepted(alloc, true, &turns)?);
-    assert!(rt; is_accepted(alloc, true, &[Body::Nothing, Body::Changes])?);
-    assert!(rt; is_accepted(alloc, true, &[Body::Links, Body::Changes])?);
+    assert!(rt; is(alloc, true, "B A w", b"none")?);
+    assert!(rt; is(alloc, true, "0 w", b"none")?);
+    assert!(rt; is(alloc, true, "l w", b"none")?);
     Ok(())
 }
 
-/// A form of term that holds another.
-#[derive(Clone, Copy)]
-enum Around {
-    Argument,
-    CallArgument,
-    LetValue,
-    LetBody,
-    Test,
-    Then,
-    Else,
-    Choice,
-    Branch,
-    Rows,
-    EachBody,
-}
-
-fn let_in(alloc: Global, value: Term, body: Term) -> Result<Term, Memory> {
-    let values = one(alloc, value)?;
-    Ok(Term::Let(values, Boxed::new(alloc, body)?))
-}
-
-fn either(alloc: Global, test: Term, then: Term, other: Term) -> Result<Term, Memory> {
-    let test = Boxed::new(alloc, test)?;
-    let then = Boxed::new(alloc, then)?;
-    Ok(Term::If(test, then, Boxed::new(alloc, other)?))
-}
-
-fn case_of(alloc: Global, of: Term, body: Term) -> Result<Term, Memory> {
-    let of = Boxed::new(alloc, of)?;
-    let mut branches = List::new(alloc);
-    let pattern = Pattern::Any;
-    branches.push(Branch { pattern, body })?;
-    Ok(Term::Case(of, branches))
-}
-
-fn each(alloc: Global, rows: Term, body: Term) -> Result<Term, Memory> {
-    let rows = Boxed::new(alloc, rows)?;
-    Ok(Term::Each(rows, Boxed::new(alloc, body)?))
-}
-
-fn negated(alloc: Global, term: Term) -> Result<Term, Memory> {
-    Ok(Term::Make(Op::Neg, one(alloc, term)?))
-}
-
-fn called_with(alloc: Global, term: Term) -> Result<Term, Memory> {
-    Ok(Term::Call(1, one(alloc, term)?))
-}
-
-fn held_in(alloc: Global, form: Around, term: Term) -> Result<Term, Memory> {
-    match form {
-        Around::Argument => negated(alloc, term),
-        Around::CallArgument => called_with(alloc, term),
-        Around::LetValue => let_in(alloc, term, Term::Int(0)),
-        Around::LetBody => let_in(alloc, Term::Int(0), term),
-        Around::Test => either(alloc, term, Term::Int(0), Term::Int(1)),
-        Around::Then => either(alloc, Term::Int(0), term, Term::Int(1)),
-        Around::Else => either(alloc, Term::Int(0), Term::Int(1), term),
-        Around::Choice => case_of(alloc, term, Term::Int(0)),
-        Around::Branch => case_of(alloc, Term::Int(0), term),
-        Around::Rows => each(alloc, term, Term::Int(0)),
-        Around::EachBody => each(alloc, Term::Int(0), term),
+/// Whether a change within each of these terms is seen.
+fn are_seen(alloc: Global, terms: &str) -> Result<bool, Memory> {
+    for text in terms.split_ascii_whitespace() {
+        if !is(alloc, true, text, b"Main.page: dml")? {
+            return Ok(false);
+        }
     }
+    Ok(true)
 }
 
-/// Whether a change within a term of this form is seen.
-fn is_seen(alloc: Global, form: Around) -> Result<bool, Memory> {
-    let term = held_in(alloc, form, body_of(alloc, Body::Changes))?;
-    let mut functions = List::new(alloc);
-    functions.push(function(alloc, 0, term)?)?;
-    let code = code(alloc, true, functions)?;
-    Ok(texts(alloc, &code)?.is_some())
-}
-
+/// An argument of an operation and of a call, both parts of a LET, the three of a choice, both of a case and of a loop.
 #[test]
 fn writes_are_seen_within_every_form_of_term(rt: HostRuntime) -> Result<(), Memory> {
-    let alloc = rt.alloc();
-    let forms = [
-        Around::Argument,
-        Around::CallArgument,
-        Around::LetValue,
-        Around::LetBody,
-        Around::Test,
-        Around::Then,
-        Around::Else,
-        Around::Choice,
-        Around::Branch,
-        Around::Rows,
-        Around::EachBody,
-    ];
-    for form in forms {
-        assert!(rt; is_seen(alloc, form)?);
-    }
+    let terms = "w- w( w0; 0w; w01? 0w1? 01w? w0| 0w| w0* 0w*";
+    assert!(rt; are_seen(rt.alloc(), terms)?);
     Ok(())
 }
 
-/// A change below so many terms that each hold the next. Code nests no more than 1,024.
-fn tall(alloc: Global, height: u32) -> Result<Term, Memory> {
-    let mut term = body_of(alloc, Body::Changes);
-    for _ in 0..height {
-        term = negated(alloc, term)?;
-    }
-    Ok(term)
-}
-
-fn tall_is_seen(alloc: Global, height: u32) -> Result<bool, Memory> {
-    let mut functions = List::new(alloc);
-    functions.push(function(alloc, 0, tall(alloc, height)?)?)?;
-    let code = code(alloc, true, functions)?;
-    Ok(texts(alloc, &code)?.is_some())
+/// A change under so many minus signs.
+fn tall_is_seen(alloc: Global, signs: u32) -> Result<bool, Memory> {
+    let text = repeated(alloc, b'w', b'-', signs)?;
+    let body = term(alloc, &text)?;
+    let function = function(alloc, 0, body)?;
+    let mut code = code(alloc, true, "")?;
+    code.functions.push(function)?;
+    let text = texts(alloc, &code)?;
+    Ok(text.as_slice() == b"Main.page: dml".as_slice())
 }
 
 #[test]

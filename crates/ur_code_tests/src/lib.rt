@@ -10,8 +10,12 @@ mod listings;
 #[cfg(test)]
 mod operating;
 #[cfg(test)]
+mod sorts;
+#[cfg(test)]
 mod tags;
 #[cfg(test)]
 mod types;
 #[cfg(test)]
 mod verifying;
+#[cfg(test)]
+mod written;

@@ -1,64 +1,41 @@
 //! Types and listings.
 use crate::codes::code_of;
+use crate::sorts::{sort, sorts, written};
 use std::alloc::Global;
-use ur_base::{Boxed, List, Memory, Name, Text};
+use ur_base::{List, Memory};
 use ur_code::Code;
 use ur_listing::listing;
 use ur_terms::{Function, Term};
-use ur_types::{TypeField, ValueType, type_text};
 
-fn names(alloc: Global) -> Result<List<Text>, Memory> {
-    let mut names = List::new(alloc);
-    names.push(List::from_slice(alloc, b"Id")?)?;
-    names.push(List::from_slice(alloc, b"Body")?)?;
-    Ok(names)
-}
-
-fn optional(alloc: Global, of: ValueType) -> Result<ValueType, Memory> {
-    Ok(ValueType::Opt(Boxed::new(alloc, of)?))
-}
-
-/// An int under the first name and an optional string under the second.
-fn fields(alloc: Global) -> Result<List<TypeField>, Memory> {
-    let mut fields = List::new(alloc);
-    let name = Name(0);
-    fields.push(TypeField {
-        name,
-        of: ValueType::Int,
-    })?;
-    let of = optional(alloc, ValueType::Str)?;
-    let name = Name(1);
-    fields.push(TypeField { name, of })?;
-    Ok(fields)
-}
-
-fn is_text(alloc: Global, of: &ValueType, wanted: &[u8]) -> Result<bool, Memory> {
-    let names = names(alloc)?;
-    let text = type_text(alloc, names.as_slice(), of)?;
-    Ok(text.as_slice() == wanted)
+fn is_text(alloc: Global, of: &[u8], wanted: &str) -> Result<bool, Memory> {
+    let all = sorts(alloc, of)?;
+    let text = written(alloc, all.as_slice())?;
+    Ok(text.as_slice() == wanted.as_bytes())
 }
 
 #[test]
 fn types_as_they_are_written(rt: HostRuntime) -> Result<(), Memory> {
     let alloc = rt.alloc();
-    assert!(rt; is_text(alloc, &ValueType::Bool, b"bool")?);
-    let record = ValueType::Record(fields(alloc)?);
-    assert!(rt; is_text(alloc, &record, b"{ Id : int; Body : option string; }")?);
-    let form = ValueType::Form(List::new(alloc));
-    assert!(rt; is_text(alloc, &form, b"form { }")?);
-    let twice = optional(alloc, optional(alloc, ValueType::Datatype(7))?)?;
-    assert!(rt; is_text(alloc, &twice, b"option (option (datatype 7))")?);
+    assert!(rt;
+        is_text(
+            alloc,
+            b"bf7??",
+            "bool.form { }.option (option (datatype 7))."
+        )?
+    );
+    assert!(rt; is_text(alloc, b"is?{", "{ Id : int; Body : option string; }.")?);
     Ok(())
 }
 
+/// A function of an int and an optional one that gives an optional page.
 fn function(alloc: Global, name: &[u8], runs: bool) -> Result<Function, Memory> {
-    let mut params = List::new(alloc);
-    params.push(ValueType::Int)?;
-    params.push(optional(alloc, ValueType::Int)?)?;
+    let name = List::from_slice(alloc, name)?;
+    let params = sorts(alloc, b"ii?")?;
+    let result = sort(alloc, b"p?")?;
     Ok(Function {
-        name: List::from_slice(alloc, name)?,
+        name,
         params,
-        result: optional(alloc, ValueType::Page)?,
+        result,
         runs,
         body: Term::Variable(0),
     })
@@ -71,16 +48,16 @@ fn code(alloc: Global) -> Result<Code, Memory> {
     Ok(code_of(alloc, functions))
 }
 
-fn lists(alloc: Global, wanted: &[u8]) -> Result<bool, Memory> {
+fn lists(alloc: Global, wanted: &str) -> Result<bool, Memory> {
     let code = code(alloc)?;
     let text = listing(alloc, &code)?;
-    Ok(text.as_slice() == wanted)
+    Ok(text.as_slice() == wanted.as_bytes())
 }
 
 #[test]
 fn a_line_for_each_function(rt: HostRuntime) -> Result<(), Memory> {
     let lines =
-        b"M.f : int -> (option int) -> option page\nM.g : int -> (option int) -> transaction (option page)\n";
-    assert!(rt; lists(rt.alloc(), lines.as_slice())?);
+        "M.f : int -> (option int) -> option page\nM.g : int -> (option int) -> transaction (option page)\n";
+    assert!(rt; lists(rt.alloc(), lines)?);
     Ok(())
 }

@@ -1,39 +1,46 @@
 //! Types of operations.
-use crate::codes::code_of;
+use crate::codes::{code_of, one};
+use crate::sorts::{names, sort, sorts, written};
 use std::alloc::Global;
-use ur_base::{Boxed, List, Memory, Name, Text};
+use ur_base::{List, Memory, Name, Text};
 use ur_code::{Code, Cookie};
 use ur_tags::{FormField, Handlers, Param, Route};
 use ur_terms::{Branch, Op, Pattern, Term};
-use ur_types::{TypeField, ValueType, same_type, same_types};
-use ur_typing::{Untyped, bound_by, covers, operation_type, route_types};
+use ur_types::{ValueType, type_text};
+use ur_typing::{Misfit, Untyped, bound_by, covers, operation_type, route_types};
 use ur_values::{ColumnKind, Tag};
 
-fn names(alloc: Global) -> Result<List<Text>, Memory> {
-    let mut names = List::new(alloc);
-    names.push(List::from_slice(alloc, b"Id")?)?;
-    names.push(List::from_slice(alloc, b"Body")?)?;
-    Ok(names)
+/// A checkbox.
+fn form(alloc: Global) -> Result<List<FormField>, Memory> {
+    let name = List::from_slice(alloc, b"Id")?;
+    let field = FormField {
+        number: Name(0),
+        name,
+        checkbox: true,
+    };
+    one(alloc, field)
 }
 
 /// A route that answers POST, with an int in its path and a form of one checkbox.
 fn route(alloc: Global) -> Result<Route, Memory> {
-    let mut params = List::new(alloc);
-    params.push(Param::Int)?;
-    let mut form = List::new(alloc);
-    form.push(FormField {
-        number: Name(0),
-        name: List::from_slice(alloc, b"Id")?,
-        checkbox: true,
-    })?;
+    let module_name = List::from_slice(alloc, b"Notes")?;
+    let function_name = List::from_slice(alloc, b"add")?;
+    let params = one(alloc, Param::Int)?;
+    let form = form(alloc)?;
     Ok(Route {
-        module_name: List::from_slice(alloc, b"Notes")?,
-        function_name: List::from_slice(alloc, b"add")?,
+        module_name,
+        function_name,
         params,
         form,
         get: false,
         post: true,
     })
+}
+
+fn handlers(alloc: Global) -> Result<Handlers, Memory> {
+    let route = route(alloc)?;
+    let routes = one(alloc, route)?;
+    Ok(Handlers { routes })
 }
 
 /// One constructor without an argument, and one with a string.
@@ -45,17 +52,9 @@ fn variants(alloc: Global) -> Result<List<(u32, Option<ValueType>)>, Memory> {
 }
 
 fn cookies(alloc: Global) -> Result<List<Cookie>, Memory> {
-    let mut cookies = List::new(alloc);
     let name = List::from_slice(alloc, b"seen")?;
     let of = ColumnKind::Int;
-    cookies.push(Cookie { name, of })?;
-    Ok(cookies)
-}
-
-fn handlers(alloc: Global) -> Result<Handlers, Memory> {
-    let mut routes = List::new(alloc);
-    routes.push(route(alloc)?)?;
-    Ok(Handlers { routes })
+    one(alloc, Cookie { name, of })
 }
 
 /// Two constructors, a route, and a cookie of ints.
@@ -72,277 +71,189 @@ fn code(alloc: Global) -> Result<Code, Memory> {
     Ok(code)
 }
 
-fn gives(alloc: Global, op: &Op, ts: &[ValueType], wanted: &ValueType) -> Result<bool, Memory> {
-    let code = code(alloc)?;
-    match operation_type(alloc, &code, op, ts) {
-        Ok(of) => Ok(same_type(&of, wanted)),
-        Err(Untyped::Misfit(_)) => Ok(false),
-        Err(Untyped::Memory) => Err(Memory),
-    }
-}
+// ---- operations
 
-fn refuses(
-    alloc: Global,
-    op: &Op,
-    ts: &[ValueType],
-    left: &[u8],
-    right: &[u8],
-) -> Result<bool, Memory> {
-    let code = code(alloc)?;
-    match operation_type(alloc, &code, op, ts) {
-        Ok(_) => Ok(false),
-        Err(Untyped::Misfit(m)) => Ok(m.left.as_slice() == left && m.right.as_slice() == right),
-        Err(Untyped::Memory) => Err(Memory),
-    }
-}
-
-fn two_names(alloc: Global) -> Result<Op, Memory> {
-    let mut names = List::new(alloc);
-    names.push(Name(1))?;
-    names.push(Name(0))?;
-    Ok(Op::Record(names))
-}
-
-/// The type of a record of a string under the second name and an int under the first.
-fn record(alloc: Global) -> Result<ValueType, Memory> {
-    let code = code(alloc)?;
-    let op = two_names(alloc)?;
-    match operation_type(alloc, &code, &op, &[ValueType::Str, ValueType::Int]) {
-        Ok(of) => Ok(of),
-        Err(_) => Err(Memory),
-    }
-}
-
-/// A type of an argument or a result. `Form` sends nothing.
-#[derive(Clone, Copy)]
-enum Of {
-    Int,
-    Str,
-    Bool,
-    Body,
-    Page,
-    Form,
-    Datatype,
-    OptionOfInt,
-    Record,
-}
-
-fn type_of(alloc: Global, of: Of) -> Result<ValueType, Memory> {
-    match of {
-        Of::Int => Ok(ValueType::Int),
-        Of::Str => Ok(ValueType::Str),
-        Of::Bool => Ok(ValueType::Bool),
-        Of::Body => Ok(ValueType::Xbody),
-        Of::Page => Ok(ValueType::Page),
-        Of::Form => Ok(ValueType::Form(List::new(alloc))),
-        Of::Datatype => Ok(ValueType::Datatype(0)),
-        Of::OptionOfInt => Ok(ValueType::Opt(Boxed::new(alloc, ValueType::Int)?)),
-        Of::Record => record(alloc),
-    }
-}
-
-fn types_of(alloc: Global, of: &[Of]) -> Result<List<ValueType>, Memory> {
-    let mut ts = List::new(alloc);
-    for place in 0..of.len() {
-        ts.push(type_of(alloc, of[place])?)?;
-    }
-    Ok(ts)
-}
-
-/// An operation that holds nothing but numbers.
-#[derive(Clone, Copy)]
-enum Deed {
-    Add,
-    Neg,
-    Equal,
-    Less,
-    Project(u32),
-    Tagged(u32),
-    GetCookie,
-    SetCookie,
-    Element(Tag),
-    Link,
-    Submit,
-}
-
-/// A link and a submit button call route 0 with one argument.
-fn operation(deed: Deed) -> Op {
+/// `+`, `-`, `=` and `<`, a digit for what stands under a name, `T` and `U` for the constructors 1 and 2, `G` and `S` for a
+/// cookie, `P`, `B` and `R` for a paragraph, a body and a line's end. A link `L` and a submit button `M` call route 0 with one
+/// argument.
+fn operation(byte: u8) -> Op {
     let (route, args, unit) = (0, 1, false);
-    match deed {
-        Deed::Add => Op::Add,
-        Deed::Neg => Op::Neg,
-        Deed::Equal => Op::Equal,
-        Deed::Less => Op::Less,
-        Deed::Project(number) => Op::Project(Name(number)),
-        Deed::Tagged(number) => Op::Tagged(number),
-        Deed::GetCookie => Op::GetCookie(0),
-        Deed::SetCookie => Op::SetCookie(0),
-        Deed::Element(tag) => Op::Element(tag),
-        Deed::Link => Op::Link { route, args },
-        Deed::Submit => Op::Submit { route, args, unit },
+    match byte {
+        b'+' => Op::Add,
+        b'-' => Op::Neg,
+        b'=' => Op::Equal,
+        b'<' => Op::Less,
+        b'0' => Op::Project(Name(0)),
+        b'1' => Op::Project(Name(1)),
+        b'T' => Op::Tagged(1),
+        b'U' => Op::Tagged(2),
+        b'G' => Op::GetCookie(0),
+        b'S' => Op::SetCookie(0),
+        b'P' => Op::Element(Tag::P),
+        b'B' => Op::Element(Tag::Body),
+        b'R' => Op::Element(Tag::Br),
+        b'L' => Op::Link { route, args },
+        _ => Op::Submit { route, args, unit },
     }
 }
 
-fn is_typed(alloc: Global, deed: Deed, of: &[Of], wanted: Of) -> Result<bool, Memory> {
-    let ts = types_of(alloc, of)?;
-    let wanted = type_of(alloc, wanted)?;
-    let is = gives(alloc, &operation(deed), ts.as_slice(), &wanted)?;
-    Ok(is)
+/// `N` is a record under the second name and the first one.
+fn any_operation(alloc: Global, byte: u8) -> Result<Op, Memory> {
+    if byte == b'N' {
+        let names = List::from_slice(alloc, &[Name(1), Name(0)])?;
+        return Ok(Op::Record(names));
+    }
+    Ok(operation(byte))
 }
 
-fn is_refused(
-    alloc: Global,
-    deed: Deed,
-    of: &[Of],
-    left: &[u8],
-    right: &[u8],
-) -> Result<bool, Memory> {
-    let ts = types_of(alloc, of)?;
-    let is = refuses(alloc, &operation(deed), ts.as_slice(), left, right)?;
-    Ok(is)
+/// Both texts with ` for ` between them.
+fn both_texts(alloc: Global, misfit: &Misfit) -> Result<Text, Memory> {
+    let mut text = List::from_slice(alloc, misfit.left.as_slice())?;
+    text.extend_from_slice(b" for ")?;
+    text.extend_from_slice(misfit.right.as_slice())?;
+    Ok(text)
 }
 
+/// The text of what the operation gives for arguments of these types, or of why there is none.
+fn answer(alloc: Global, code: &Code, op: &Op, ts: &[ValueType]) -> Result<Text, Memory> {
+    match operation_type(alloc, code, op, ts) {
+        Ok(of) => type_text(alloc, code.names.as_slice(), &of),
+        Err(Untyped::Misfit(misfit)) => both_texts(alloc, &misfit),
+        Err(Untyped::Memory) => Err(Memory),
+    }
+}
+
+fn answered(alloc: Global, code: &Code, byte: u8, ts: &[ValueType]) -> Result<Text, Memory> {
+    let op = any_operation(alloc, byte)?;
+    answer(alloc, code, &op, ts)
+}
+
+/// Whether an operation has this answer for arguments of the types behind it.
+fn is_answer(alloc: Global, code: &Code, asked: &[u8], wanted: &[u8]) -> Result<bool, Memory> {
+    match asked.split_first() {
+        Some((byte, types)) => {
+            let ts = sorts(alloc, types)?;
+            let text = answered(alloc, code, *byte, ts.as_slice())?;
+            Ok(text.as_slice() == wanted)
+        }
+        None => Ok(false),
+    }
+}
+
+/// The first of these rows that is wrong, or nothing. A row is an operation with the types of its arguments, and behind a blank
+/// the answer.
+fn first_wrong<'a>(alloc: Global, rows: &'a str) -> Result<&'a str, Memory> {
+    let code = code(alloc)?;
+    for row in rows.split('|') {
+        let right = match row.split_once(' ') {
+            Some((asked, wanted)) => {
+                is_answer(alloc, &code, asked.as_bytes(), wanted.as_bytes())?
+            }
+            None => false,
+        };
+        if !right {
+            return Ok(row);
+        }
+    }
+    Ok("")
+}
+
+/// Operators, what a program declares, parts of a page, fields by their names, and calls of a route that answers POST.
 #[test]
-fn what_is_found_and_what_is_wanted(rt: HostRuntime) -> Result<(), Memory> {
+fn what_operations_give(rt: HostRuntime) -> Result<(), Memory> {
     let alloc = rt.alloc();
-    let ints = [Of::Int, Of::Int];
-    let mixed = [Of::Bool, Of::Int];
-    assert!(rt; is_typed(alloc, Deed::Add, &ints, Of::Int)?);
-    assert!(rt; is_refused(alloc, Deed::Add, &mixed, b"bool", b"int")?);
-    assert!(rt; is_refused(alloc, Deed::Equal, &mixed, b"int", b"bool")?);
-    assert!(rt; is_refused(alloc, Deed::Less, &mixed, b"bool", b"int or string")?);
-    assert!(rt; is_refused(alloc, Deed::Project(0), &ints, b"no type", b"a record")?);
-    Ok(())
-}
-
-#[test]
-fn what_a_program_declares(rt: HostRuntime) -> Result<(), Memory> {
-    let alloc = rt.alloc();
-    let text = [Of::Str];
-    assert!(rt; is_typed(alloc, Deed::Tagged(1), &text, Of::Datatype)?);
-    assert!(rt; is_refused(alloc, Deed::Tagged(2), &text, b"no type", b"a constructor")?);
-    assert!(rt; is_typed(alloc, Deed::GetCookie, &[], Of::OptionOfInt)?);
-    assert!(rt; is_refused(alloc, Deed::SetCookie, &text, b"string", b"int")?);
-    Ok(())
-}
-
-#[test]
-fn parts_of_a_page(rt: HostRuntime) -> Result<(), Memory> {
-    let alloc = rt.alloc();
-    let parts = [Of::Body, Of::Body];
-    assert!(rt; is_typed(alloc, Deed::Element(Tag::P), &parts, Of::Body)?);
-    assert!(rt; is_typed(alloc, Deed::Element(Tag::Body), &parts, Of::Page)?);
-    assert!(rt; is_typed(alloc, Deed::Element(Tag::Br), &[], Of::Body)?);
-    let mixed = [Of::Body, Of::Form];
-    assert!(rt; is_typed(alloc, Deed::Element(Tag::P), &mixed, Of::Form)?);
-    Ok(())
-}
-
-/// A record of one bool.
-fn checked_box(alloc: Global) -> Result<ValueType, Memory> {
-    let mut fields = List::new(alloc);
-    let (name, of) = (Name(0), ValueType::Bool);
-    fields.push(TypeField { name, of })?;
-    Ok(ValueType::Record(fields))
-}
-
-fn are_typed_by_route(alloc: Global) -> Result<bool, Memory> {
-    let route = route(alloc)?;
-    let types = route_types(alloc, &route)?;
-    let wanted = [ValueType::Int, checked_box(alloc)?];
-    Ok(same_types(types.as_slice(), &wanted))
-}
-
-#[test]
-fn arguments_of_a_route(rt: HostRuntime) -> Result<(), Memory> {
-    assert!(rt; are_typed_by_route(rt.alloc())?);
-    Ok(())
-}
-
-#[test]
-fn calls_of_a_route_that_answers_post(rt: HostRuntime) -> Result<(), Memory> {
-    let alloc = rt.alloc();
-    let ts = [Of::Int];
-    assert!(rt; is_typed(alloc, Deed::Submit, &ts, Of::Form)?);
-    assert!(rt;
-        is_refused(
+    assert_eq!(rt;
+        first_wrong(
             alloc,
-            Deed::Link,
-            &ts,
-            b"no type",
-            b"a route that answers GET"
-        )?
+            "+ii int|+bi bool for int|=bi int for bool|<bi bool for int or string|0ii no type for a record"
+        )?,
+        ""
+    );
+    assert_eq!(rt;
+        first_wrong(
+            alloc,
+            "Ts datatype 0|Us no type for a constructor|G option int|Ss string for int"
+        )?,
+        ""
+    );
+    assert_eq!(rt;
+        first_wrong(
+            alloc,
+            "Pxx xbody|Bxx page|R xbody|Pxf form { }|Mi form { }|Li no type for a route that answers GET"
+        )?,
+        ""
+    );
+    assert_eq!(rt;
+        first_wrong(
+            alloc,
+            "Nsi { Id : int; Body : string; }|0is{ int|1is{ string|-is{ { Id : int; Body : string; } for int"
+        )?,
+        ""
     );
     Ok(())
 }
 
-/// A record of a string under the second name and an int under the first is sorted by name.
-#[test]
-fn fields_by_name(rt: HostRuntime) -> Result<(), Memory> {
-    let alloc = rt.alloc();
-    let held = [Of::Record];
-    let text = b"{ Id : int; Body : string; }";
-    assert!(rt; is_typed(alloc, Deed::Project(0), &held, Of::Int)?);
-    assert!(rt; is_typed(alloc, Deed::Project(1), &held, Of::Str)?);
-    assert!(rt; is_refused(alloc, Deed::Neg, &held, text, b"int")?);
-    Ok(())
+// ---- routes and patterns
+
+fn arguments(alloc: Global) -> Result<Text, Memory> {
+    let route = route(alloc)?;
+    let types = route_types(alloc, &route)?;
+    written(alloc, types.as_slice())
 }
 
-/// A pattern that holds nothing but numbers.
-#[derive(Clone, Copy)]
-enum For {
-    Any,
-    Int(i64),
-    Tagged(u32),
+/// `*` is any value, `A` and `B` are the constructors, and a digit is an int.
+fn pattern(byte: u8) -> Pattern {
+    match byte {
+        b'*' => Pattern::Any,
+        b'A'..=b'B' => Pattern::Tagged(u32::from(byte - b'A')),
+        _ => Pattern::Int(i64::from(byte)),
+    }
 }
 
-fn branch(of: For) -> Branch {
-    let pattern = match of {
-        For::Any => Pattern::Any,
-        For::Int(number) => Pattern::Int(number),
-        For::Tagged(number) => Pattern::Tagged(number),
-    };
+fn branch(byte: u8) -> Branch {
     Branch {
-        pattern,
+        pattern: pattern(byte),
         body: Term::Bool(true),
     }
 }
 
-fn branches(alloc: Global, first: For, second: For) -> Result<List<Branch>, Memory> {
-    let mut branches = List::new(alloc);
-    branches.push(branch(first))?;
+fn branches(alloc: Global, first: u8, second: u8) -> Result<List<Branch>, Memory> {
+    let mut branches = one(alloc, branch(first))?;
     branches.push(branch(second))?;
     Ok(branches)
 }
 
-fn is_covered(alloc: Global, first: For, second: For, of: Of) -> Result<bool, Memory> {
+/// Whether branches of two patterns leave nothing of a type out, where a row is the patterns and the type.
+fn is_covered(alloc: Global, row: &[u8; 3]) -> Result<bool, Memory> {
     let code = code(alloc)?;
-    let branches = branches(alloc, first, second)?;
-    let of = type_of(alloc, of)?;
+    let of = sort(alloc, &row[2..])?;
+    let branches = branches(alloc, row[0], row[1])?;
     Ok(covers(&code, branches.as_slice(), &of))
 }
 
 #[test]
 fn patterns_that_leave_nothing_out(rt: HostRuntime) -> Result<(), Memory> {
     let alloc = rt.alloc();
-    assert!(rt; is_covered(alloc, For::Tagged(1), For::Tagged(0), Of::Datatype)?);
-    assert!(rt; !is_covered(alloc, For::Tagged(1), For::Tagged(1), Of::Datatype)?);
-    assert!(rt; is_covered(alloc, For::Int(0), For::Any, Of::Int)?);
-    assert!(rt; !is_covered(alloc, For::Int(0), For::Int(1), Of::Int)?);
+    assert!(rt; is_covered(alloc, b"BA0")?);
+    assert!(rt; !is_covered(alloc, b"BB0")?);
+    assert!(rt; is_covered(alloc, b"0*i")?);
+    assert!(rt; !is_covered(alloc, b"01i")?);
     Ok(())
 }
 
-fn bound(alloc: Global) -> Result<List<ValueType>, Memory> {
+/// What the constructor with an argument binds.
+fn bound(alloc: Global) -> Result<Text, Memory> {
     let code = code(alloc)?;
     match bound_by(alloc, &code, &Pattern::Tagged(1), &ValueType::Datatype(0)) {
-        Ok(bound) => Ok(bound),
+        Ok(bound) => written(alloc, bound.as_slice()),
         Err(_) => Err(Memory),
     }
 }
 
 #[test]
-fn what_a_pattern_binds(rt: HostRuntime) -> Result<(), Memory> {
-    let bound = bound(rt.alloc())?;
-    assert!(rt; bound.len() == 1);
+fn what_a_route_and_a_pattern_bind(rt: HostRuntime) -> Result<(), Memory> {
+    let alloc = rt.alloc();
+    assert!(rt; arguments(alloc)?.as_slice() == b"int.{ Id : bool; }.".as_slice());
+    assert!(rt; bound(alloc)?.as_slice() == b"string.".as_slice());
     Ok(())
 }
