@@ -1,4 +1,2 @@
-mod Counts
-mod Pairs
 mod Spans
 mod States

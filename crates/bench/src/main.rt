@@ -3,7 +3,6 @@
 #![tactic(auto)]
 
 mod answers;
-mod calls;
 mod changes;
 mod congruence;
 mod keeper;
@@ -11,6 +10,7 @@ mod pieces;
 
 ghost use Rattle.std.specs.Prelude.{◌≤◌, IfOk};
 
+use std::alloc::Global;
 use std::process::ExitCode;
 use std::{env, io};
 use ur_base::Memory;
@@ -66,25 +66,74 @@ fn bench(rt: &HostRuntime) -> Result<(), BenchEnd> {
     match name.as_str() {
         "keeper" => change_rows(rt, words.next()),
         "keys" => plan_changes(rt, words.next()),
-        "join" => join(rt, words.next()),
-        "group" => group(rt, words.next()),
-        "order" => order(rt, words.next()),
-        "chain" => chain(rt, words.next()),
-        "pairwise" => pairwise(rt, words.next()),
-        "powers" => powers(rt, words.next()),
         "request" => {
+            let empty_lines = size(words.next(), pieces::MOST)?;
+            let short_fields = size(words.next(), pieces::MOST)?;
+            let long_field = size(words.next(), pieces::MOST)?;
+            let body = size(words.next(), pieces::MOST)?;
             let parts = pieces::Parts {
-                empty_lines: size(words.next(), pieces::MOST)?,
-                short_fields: size(words.next(), pieces::MOST)?,
-                long_field: size(words.next(), pieces::MOST)?,
-                body: size(words.next(), pieces::MOST)?,
+                empty_lines,
+                short_fields,
+                long_field,
+                body,
             };
             request(rt, parts)
         }
         "pipelined" => pipelined(rt, words.next()),
-        "calls" => count_down(rt, words.next()),
-        _ => Err(BenchEnd::Usage),
+        name => count(rt, name, words.next()),
     }
+}
+
+/// A run that gives one count.
+#[derive(Clone, Copy)]
+enum Run {
+    Join,
+    Group,
+    Order,
+    Chain,
+    Pairwise,
+    Powers,
+}
+
+fn run_of(name: &str) -> Option<Run> {
+    match name {
+        "join" => Some(Run::Join),
+        "group" => Some(Run::Group),
+        "order" => Some(Run::Order),
+        "chain" => Some(Run::Chain),
+        "pairwise" => Some(Run::Pairwise),
+        "powers" => Some(Run::Powers),
+        _ => None,
+    }
+}
+
+/// The greatest size.
+fn most(run: Run) -> u32 {
+    match run {
+        Run::Join | Run::Group | Run::Order => keeper::MOST_ROWS,
+        Run::Chain | Run::Pairwise | Run::Powers => congruence::MOST_TERMS,
+    }
+}
+
+fn counted(alloc: Global, run: Run, size: u32) -> Result<usize, Memory> {
+    match run {
+        Run::Join => answers::join(alloc, size),
+        Run::Group => answers::group(alloc, size),
+        Run::Order => answers::order(alloc, size),
+        Run::Chain => congruence::chain(alloc, size),
+        Run::Pairwise => congruence::pairwise(alloc, size),
+        Run::Powers => congruence::powers(alloc, size),
+    }
+}
+
+fn count(rt: &HostRuntime, name: &str, word: Option<String>) -> Result<(), BenchEnd> {
+    let Some(run) = run_of(name) else {
+        return Err(BenchEnd::Usage);
+    };
+    let size = size(word, most(run))?;
+    let count = counted(rt.alloc(), run, size)?;
+    println!(rt; "{name} {count}")?;
+    Ok(())
 }
 
 fn request(rt: &HostRuntime, parts: pieces::Parts) -> Result<(), BenchEnd> {
@@ -100,15 +149,6 @@ fn pipelined(rt: &HostRuntime, word: Option<String>) -> Result<(), BenchEnd> {
     Ok(())
 }
 
-fn count_down(rt: &HostRuntime, word: Option<String>) -> Result<(), BenchEnd> {
-    let from = size(word, calls::MOST_CALLS)?;
-    match calls::count_down(rt.alloc(), from)? {
-        Some(calls) => println!(rt; "calls {calls}")?,
-        None => println!(rt; "no page")?,
-    }
-    Ok(())
-}
-
 fn change_rows(rt: &HostRuntime, word: Option<String>) -> Result<(), BenchEnd> {
     let rows = size(word, keeper::MOST_ROWS)?;
     let counts = keeper::change_all(rt.alloc(), rows)?;
@@ -120,48 +160,6 @@ fn plan_changes(rt: &HostRuntime, word: Option<String>) -> Result<(), BenchEnd> 
     let rows = size(word, keeper::MOST_ROWS)?;
     let plans = changes::plan_all(rt.alloc(), rows)?;
     println!(rt; "keys {plans}")?;
-    Ok(())
-}
-
-fn join(rt: &HostRuntime, word: Option<String>) -> Result<(), BenchEnd> {
-    let rows = size(word, keeper::MOST_ROWS)?;
-    let count = answers::join(rt.alloc(), rows)?;
-    println!(rt; "join {count}")?;
-    Ok(())
-}
-
-fn group(rt: &HostRuntime, word: Option<String>) -> Result<(), BenchEnd> {
-    let rows = size(word, keeper::MOST_ROWS)?;
-    let count = answers::group(rt.alloc(), rows)?;
-    println!(rt; "group {count}")?;
-    Ok(())
-}
-
-fn order(rt: &HostRuntime, word: Option<String>) -> Result<(), BenchEnd> {
-    let rows = size(word, keeper::MOST_ROWS)?;
-    let count = answers::order(rt.alloc(), rows)?;
-    println!(rt; "order {count}")?;
-    Ok(())
-}
-
-fn chain(rt: &HostRuntime, word: Option<String>) -> Result<(), BenchEnd> {
-    let terms = size(word, congruence::MOST_TERMS)?;
-    let equal = congruence::chain(rt.alloc(), terms)?;
-    println!(rt; "chain {equal}")?;
-    Ok(())
-}
-
-fn pairwise(rt: &HostRuntime, word: Option<String>) -> Result<(), BenchEnd> {
-    let terms = size(word, congruence::MOST_TERMS)?;
-    let equal = congruence::pairwise(rt.alloc(), terms)?;
-    println!(rt; "pairwise {equal}")?;
-    Ok(())
-}
-
-fn powers(rt: &HostRuntime, word: Option<String>) -> Result<(), BenchEnd> {
-    let terms = size(word, congruence::MOST_TERMS)?;
-    let equal = congruence::powers(rt.alloc(), terms)?;
-    println!(rt; "powers {equal}")?;
     Ok(())
 }
 
