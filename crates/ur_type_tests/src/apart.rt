@@ -1,59 +1,43 @@
+//! Rows that are apart.
+use crate::normals::row;
+use crate::written::one;
 use std::alloc::Global;
-use std::test::Fail;
 use ur_base::{List, Memory};
 use ur_disjoint::{Assumed, prove};
-use ur_rows::{Label, NormalType, Part, Var, boxed, one};
 
-fn named(alloc: Global, name: &[u8]) -> Result<List<Part>, Memory> {
-    let label = Label::Literal(List::from_slice(alloc, name)?);
-    one(alloc, Part::Field(label, boxed(alloc, NormalType::Int)?))
+/// `r ~ [A]`, or nothing.
+fn assumed(alloc: Global, known: bool) -> Result<List<Assumed>, Memory> {
+    if !known {
+        return Ok(List::new(alloc));
+    }
+    let left = row(alloc, "r")?;
+    let right = row(alloc, "Ai")?;
+    one(alloc, Assumed { left, right })
 }
 
-fn variable(alloc: Global) -> Result<List<Part>, Memory> {
-    let label = Label::Variable(Var::Free(1));
-    one(alloc, Part::Field(label, boxed(alloc, NormalType::Int)?))
+fn are_apart(alloc: Global, known: bool, left: &str, right: &str) -> Result<bool, Memory> {
+    let known = assumed(alloc, known)?;
+    let left = row(alloc, left)?;
+    let right = row(alloc, right)?;
+    Ok(prove(known.as_slice(), left.as_slice(), right.as_slice()))
 }
 
-/// `map list r`.
-fn mapped(alloc: Global) -> Result<List<Part>, Memory> {
-    let t = boxed(alloc, NormalType::Variable(Var::Bound(0)))?;
-    let list = boxed(alloc, NormalType::Many(t))?;
-    one(alloc, Part::Mapped(Var::Free(0), list))
-}
-
-/// `r ~ [A]`.
-fn assumed(alloc: Global) -> Result<List<Assumed>, Memory> {
-    let left = one(alloc, Part::Piece(Var::Free(0)))?;
-    let mut known = List::new(alloc);
-    known.push(Assumed {
-        left,
-        right: named(alloc, b"A")?,
-    })?;
-    Ok(known)
-}
-
+/// `rx*` is `map list r`.
 #[test]
-fn a_map_is_apart_where_its_row_is(rt: HostRuntime) -> Result<(), Fail> {
+fn a_map_is_apart_where_its_row_is(rt: HostRuntime) -> Result<(), Memory> {
     let alloc = rt.alloc();
-    let known = assumed(alloc)?;
-    let map = mapped(alloc)?;
-    let a = named(alloc, b"A")?;
-    assert!(rt; prove(known.as_slice(), map.as_slice(), a.as_slice()));
-    assert!(rt; prove(known.as_slice(), a.as_slice(), map.as_slice()));
-    assert!(rt; !prove(&[], map.as_slice(), a.as_slice()));
+    assert!(rt; are_apart(alloc, true, "rx*", "Ai")?);
+    assert!(rt; are_apart(alloc, true, "Ai", "rx*")?);
+    assert!(rt; !are_apart(alloc, false, "rx*", "Ai")?);
     Ok(())
 }
 
 #[test]
-fn a_name_is_not_apart_from_itself(rt: HostRuntime) -> Result<(), Fail> {
+fn a_name_is_not_apart_from_itself(rt: HostRuntime) -> Result<(), Memory> {
     let alloc = rt.alloc();
-    let known = assumed(alloc)?;
-    let nm = variable(alloc)?;
-    let a = named(alloc, b"A")?;
-    let b = named(alloc, b"B")?;
-    assert!(rt; !prove(known.as_slice(), nm.as_slice(), nm.as_slice()));
-    assert!(rt; !prove(known.as_slice(), a.as_slice(), a.as_slice()));
-    assert!(rt; !prove(known.as_slice(), a.as_slice(), nm.as_slice()));
-    assert!(rt; prove(&[], a.as_slice(), b.as_slice()));
+    assert!(rt; !are_apart(alloc, true, "1i", "1i")?);
+    assert!(rt; !are_apart(alloc, true, "Ai", "Ai")?);
+    assert!(rt; !are_apart(alloc, true, "Ai", "1i")?);
+    assert!(rt; are_apart(alloc, false, "Ai", "Bi")?);
     Ok(())
 }

@@ -8,4 +8,8 @@ mod forms;
 #[cfg(test)]
 mod kinds;
 #[cfg(test)]
+mod normals;
+#[cfg(test)]
 mod rows;
+#[cfg(test)]
+mod written;
