@@ -1,0 +1,8 @@
+pub mod Choice
+pub mod Antiquotes
+pub mod Tables
+pub mod Query
+pub mod IsQuery
+pub mod Change
+pub mod Fits
+pub mod Faults
