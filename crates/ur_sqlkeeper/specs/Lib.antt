@@ -1,0 +1,5 @@
+pub mod Bodies
+pub mod Entries
+pub mod Rows
+pub mod Serving
+pub mod Table
