@@ -1,0 +1,12 @@
+pub mod Causes
+pub mod Declaring
+pub mod DeclFaults
+pub mod Faults
+pub mod Folds
+pub mod Markups
+pub mod Parts
+pub mod Project
+pub mod Resolves
+pub mod Rules
+pub mod Typed
+pub mod Walking
