@@ -1,0 +1,4 @@
+mod Refused
+mod Wholes
+mod Breaches
+mod Declaring
