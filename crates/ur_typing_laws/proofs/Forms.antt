@@ -35,7 +35,6 @@ use Rattle.ur_typing_laws.proofs.Sound.{IsSettled, settled_by, judged_by, sound_
 use Rattle.ur_type_rules.specs.Rules.{if_so, value_of}
 use Rattle.ur_type_rules.proofs.Options.{some_of, opened, opened_if}
 
-
 -- ---- one side
 
 abbrev shown_of : Out → Option Out
