@@ -1,0 +1,9 @@
+mod Converse
+mod Counted
+mod Explained
+mod ExplainedDecls
+mod ExplainedForms
+mod ExplainedNames
+mod ExplainedTables
+mod ExplainedXml
+mod Refusals
