@@ -1,0 +1,5 @@
+pub mod Names
+pub mod Counts
+pub mod Words
+pub mod Statics
+pub mod Loops
