@@ -4,7 +4,7 @@ use crate::written::action;
 use std::alloc::Global;
 use ur_base::{List, Memory, Text};
 use ur_sql::{Action, plan_action};
-use ur_values::{Numbered, Value};
+use ur_values::Numbered;
 
 /// The keys of the table: both columns, the second one, and the first one.
 fn keys(alloc: Global) -> Result<List<List<u32>>, Memory> {
@@ -15,12 +15,11 @@ fn keys(alloc: Global) -> Result<List<List<u32>>, Memory> {
     Ok(keys)
 }
 
-/// What the action on the rows 1 2, 2 1 and 3 5 comes to. Its arguments are 7, 8 and 3.
+/// What the action on the rows 1 2, 2 1 and 3 5 comes to.
 fn planned(alloc: Global, action: &Action) -> Result<Text, Memory> {
     let rows = table(alloc, b"122135")?;
     let keys = keys(alloc)?;
-    let args = [Value::Int(7), Value::Int(8), Value::Int(3)];
-    let planned = plan_action(alloc, action, &args, &rows, &keys)?;
+    let planned = plan_action(alloc, action, &[], &rows, &keys)?;
     planned_text(alloc, &planned)
 }
 
@@ -66,14 +65,6 @@ fn the_first_key_that_repeats_is_named(rt: HostRuntime) -> Result<(), Memory> {
     assert!(rt; inserts(alloc, b"9B3A", b"K2")?);
     assert!(rt; inserts(alloc, b"2B2A", b"K1")?);
     assert!(rt; inserts(alloc, b"9B9A", b"+99")?);
-    Ok(())
-}
-
-#[test]
-fn an_insert_takes_arguments(rt: HostRuntime) -> Result<(), Memory> {
-    let alloc = rt.alloc();
-    assert!(rt; inserts(alloc, b"vBwA", b"+87")?);
-    assert!(rt; inserts(alloc, b"vBxA", b"K2")?);
     Ok(())
 }
 

@@ -1,4 +1,4 @@
-//! Tests of queries and changes, of closures of equations, and of what changes do to cached answers.
+//! Tests of queries and changes, and which fit their tables.
 #![tactic(auto)]
 
 #[cfg(test)]
@@ -6,22 +6,14 @@ mod answers;
 #[cfg(test)]
 mod changes;
 #[cfg(test)]
-mod classes;
-#[cfg(test)]
-mod closures;
-#[cfg(test)]
-mod conditions;
-#[cfg(test)]
 mod fits;
 #[cfg(test)]
 mod heights;
 #[cfg(test)]
-mod patterns;
+mod plans;
 #[cfg(test)]
 mod scalars;
 #[cfg(test)]
 mod tables;
-#[cfg(test)]
-mod updates;
 #[cfg(test)]
 mod written;

@@ -58,17 +58,6 @@ fn steps_lead_back(alloc: Global) -> Result<bool, Memory> {
     Ok(!early && are_same(&closure, one, x))
 }
 
-/// Whether a symbol applied to two equal variables, after they are equated, is one term.
-fn later_terms_are_same(alloc: Global) -> Result<bool, Memory> {
-    let mut closure = Closure::new(alloc);
-    let x = variable(&mut closure, 0)?;
-    let y = variable(&mut closure, 1)?;
-    equate(&mut closure, x, y)?;
-    let first = applied(&mut closure, 7, x)?;
-    let second = applied(&mut closure, 7, y)?;
-    Ok(are_same(&closure, first, second))
-}
-
 /// How large the class of a constant is that is equal to a variable, beside a constant, and whether there is a number for each
 /// term.
 fn class_of_two(alloc: Global) -> Result<bool, Memory> {
@@ -92,7 +81,6 @@ fn size_of(closure: &Closure, term: Term) -> Result<usize, Memory> {
 #[test]
 fn equations_follow(rt: HostRuntime) -> Result<(), Memory> {
     assert!(rt; steps_lead_back(rt.alloc())?);
-    assert!(rt; later_terms_are_same(rt.alloc())?);
     assert!(rt; class_of_two(rt.alloc())?);
     Ok(())
 }

@@ -1,7 +1,7 @@
 use Rattle.std.proofs.Common.{List, [], ◌∷◌, ◌++◌, All, slice_index_or, sym, ap, ◌∙◌, subst}
 use Rattle.ur_sql.specs.declared.pattern.Pattern.{Pattern}
 use Rattle.ur_patterns.specs.Masks.{PatternReads}
-use Rattle.ur_sql_tests.proofs.patterns.patterns.Goals as goal
+use Rattle.ur_invalidate_tests.proofs.patterns.patterns.Goals as goal
 
 pub returns : goal.returns
 returns c =
