@@ -124,9 +124,10 @@ impl<'a> Measured for Arguments<'a> {
         depth: u32,
         v: &Var,
         f: &NormalType,
+        size: u32,
         nodes: u32,
     ) -> Result<u32, Halt> {
         let row = self.row_at(alloc, depth, v)?;
-        left_of_mapped_row(alloc, f, &row, nodes)
+        left_of_mapped_row(alloc, f, size, &row, nodes)
     }
 }

@@ -12,8 +12,8 @@ use crate::levels::heights_of;
 use std::alloc::Global;
 use ur_base::List;
 use ur_heights::{normal_after, row_after, type_after};
-use ur_reduce::{Halt, left_after_normal, left_after_row, left_after_type};
-use ur_rows::{Normal, NormalType, Part, put_normal, put_row, put_type};
+use ur_reduce::{Halt, put_normal_within, put_row_within, put_type_within};
+use ur_rows::{Normal, NormalType, Part};
 
 /// A type with constructors in place of its free variables, in order of binding. There is no memory for one that is too
 /// high.
@@ -28,9 +28,8 @@ pub fn instance_type(alloc: Global, args: &[Normal], t: &NormalType) -> Result<N
     let how = Arguments { of: args };
     let heights = heights_of(alloc, args)?;
     type_after(&heights, 0, t, 4096)?;
-    left_after_type(alloc, &how, 0, t, 65536)?;
-    let made = put_type(alloc, &how, 0, t)?;
-    Ok(made)
+    let made = put_type_within(alloc, &how, 0, t, 65536)?;
+    Ok(made.0)
 }
 
 /// The same for a row, which may have one node and one level less than a constructor.
@@ -45,9 +44,8 @@ pub fn instance_row(alloc: Global, args: &[Normal], r: &List<Part>) -> Result<Li
     let how = Arguments { of: args };
     let heights = heights_of(alloc, args)?;
     row_after(&heights, 0, r, 4095)?;
-    left_after_row(alloc, &how, 0, r, 65535)?;
-    let made = put_row(alloc, &how, 0, r)?;
-    Ok(made)
+    let made = put_row_within(alloc, &how, 0, r, 65535)?;
+    Ok(made.0)
 }
 
 /// The same for a constructor.
@@ -62,7 +60,6 @@ pub fn instance(alloc: Global, args: &[Normal], n: &Normal) -> Result<Normal, Ha
     let how = Arguments { of: args };
     let heights = heights_of(alloc, args)?;
     normal_after(&heights, 0, n, 4096)?;
-    left_after_normal(alloc, &how, 0, n, 65536)?;
-    let made = put_normal(alloc, &how, 0, n)?;
-    Ok(made)
+    let made = put_normal_within(alloc, &how, 0, n, 65536)?;
+    Ok(made.0)
 }

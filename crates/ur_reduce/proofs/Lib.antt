@@ -1,4 +1,5 @@
 pub mod After
+pub mod Within
 pub mod Raised
 pub mod Occurring
 pub mod Uses

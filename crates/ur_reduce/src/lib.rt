@@ -10,7 +10,7 @@ mod occurs;
 mod place;
 
 pub use count::{
-    Halt, Measured, left_after_normal, left_after_row, left_after_type, left_of_mapped_row,
+    Halt, Measured, left_of_mapped_row, put_normal_within, put_row_within, put_type_within,
 };
 pub use given::{Args, applied};
 pub use held::{

@@ -10,7 +10,7 @@ ghost use Rattle.ur_rows.specs.Put.{as_row, mapped_row};
 ghost use Rattle.ur_rows.specs.Normal.{as_function};
 ghost use Rattle.ur_reduce.specs.Held.{Holds, RowIs, Outlines};
 
-use crate::count::{Halt, left_of_mapped_row};
+use crate::count::{Halt, left_of_mapped_row, size_of};
 use crate::held::{Fields, Held, Large, outline};
 use crate::occurs::{holds_type, uses_type};
 use std::alloc::Global;
@@ -40,7 +40,8 @@ fn mapped_small(alloc: Global, f: &NormalType, r: &List<Part>) -> Result<Fields,
     ensures { IfOk result (λ m. RowIs m (mapped_row f.now r.now)) }
 {
     mapped_is_low(f, r, 4095)?;
-    match left_of_mapped_row(alloc, f, r, 65535) {
+    let size = size_of(f)?;
+    match left_of_mapped_row(alloc, f, size, r, 65535) {
         Ok(left) => Ok(Fields::Small(mapped_row(alloc, f, r)?, left)),
         Err(halt) => match halt {
             Halt::Memory => Err(Memory),

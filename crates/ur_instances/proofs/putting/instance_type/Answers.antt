@@ -3,10 +3,10 @@ use Rattle.ur_instances.proofs.Made.{type-ordered, type-low, type-small}
 use Rattle.ur_instances.proofs.putting.instance_type.Goals as goal
 
 pub returns-clause-in_order : goal.returns-clause-in_order
-returns-clause-in_order c = type-ordered c.args.args.now c.args.t.now c.in_ok-made.made c.requires.ordered c.in_ok-made.ensures
+returns-clause-in_order c = type-ordered c.args.args.now c.args.t.now c.in_ok-made.made.0 c.requires.ordered c.in_ok-made.ensures.form
 
 pub returns-clause-low : goal.returns-clause-low
-returns-clause-low c = type-low (at_numbers c.in_ok-heights.heights.types c.in_ok-heights.heights.rows) c.args.args.now c.args.t.now c.in_ok-made.made c.in_ok-heights.ensures c.in_ok-type_after.ensures c.in_ok-made.ensures
+returns-clause-low c = type-low (at_numbers c.in_ok-heights.heights.types c.in_ok-heights.heights.rows) c.args.args.now c.args.t.now c.in_ok-made.made.0 c.in_ok-heights.ensures c.in_ok-type_after.ensures c.in_ok-made.ensures.form
 
 pub returns-clause-small : goal.returns-clause-small
-returns-clause-small c = type-small c.args.args.now c.args.t.now c.in_ok-made.made c.in_ok-left_after_type.field-0 c.in_ok-left_after_type.ensures.fits c.in_ok-made.ensures
+returns-clause-small c = type-small c.args.args.now c.args.t.now c.in_ok-made.made.0 c.in_ok-made.made.1 c.in_ok-made.ensures.fits c.in_ok-made.ensures.form
