@@ -10,9 +10,9 @@ use Rattle.ur_rows.specs.declared.normal.Label.{Label}
 use Rattle.ur_rows.specs.declared.normal.Label.TheVariants as label
 use Rattle.ur_rows.specs.declared.normal.Part.{Part}
 use Rattle.ur_rows.specs.Types.{same_var, same_label}
-use Rattle.ur_rows.specs.Apart.{Piece, name, row, piece_of, pieces, Assumptions, ApartPieces, literals, assumed, turned, Apart, AreApart}
+use Rattle.ur_rows.specs.Apart.{Piece, name, row, piece_of, pieces, Assumptions, AreTwo, ApartPieces, literals, assumed, turned, Apart, AreApart}
 use Rattle.ur_disjoint.specs.declared.rows.Assumed.{Assumed}
-use Rattle.ur_disjoint.specs.Tests.{pair, same_piece, holds_piece, differ, assumed_apart, apart_from, is_apart, all_apart}
+use Rattle.ur_disjoint.specs.Tests.{pair, same_piece, holds_piece, differ, one_name, has_pair, assumed_apart, apart_from, is_apart, all_apart}
 use Rattle.ur_disjoint.proofs.Members.{In, in-contains, contains-in, in-map}
 
 -- ---- tests
@@ -88,6 +88,27 @@ in-holds p [] i = absurd i
 in-holds p (q ∷ r) (inl e) = or-first (same_piece p (piece_of q)) (holds_piece p r) (subst (λ z. same_piece p z ≡ true) (sym e) (piece-self p))
 in-holds p (q ∷ r) (inr i) = or-second (same_piece p (piece_of q)) (holds_piece p r) (in-holds p r i)
 
+-- ---- one name
+
+-- pieces that are not one name are not, in the other order
+two-turned : (p q : Piece) → AreTwo p q → AreTwo q p
+two-turned (name l) (name m) h = λ e. h (sym e)
+two-turned (name l) (row w) h = tt
+two-turned (row v) (name m) h = tt
+two-turned (row v) (row w) h = tt
+
+is-two : (p q : Piece) → not (one_name p q) ≡ true → AreTwo p q
+is-two (name l) (name m) h = λ e. true≢false (sym h ∙ ap not (subst (λ z. same_label l z ≡ true) e (label-self l)))
+is-two (name l) (row w) h = tt
+is-two (row v) (name m) h = tt
+is-two (row v) (row w) h = tt
+
+two-is : (p q : Piece) → AreTwo p q → not (one_name p q) ≡ true
+two-is (name l) (name m) h = elim (cases_Bool (same_label l m)) [ inl x ↦ absurd (h (label-same l m x)) | inr x ↦ ap not x ]
+two-is (name l) (row w) h = refl
+two-is (row v) (name m) h = refl
+two-is (row v) (row w) h = refl
+
 -- ---- assumptions
 
 abbrev Found : List Assumed → Piece → Piece → Type 0
@@ -96,44 +117,44 @@ Found known p q = (a : Assumed) × In a known × ((In p (pieces a.left) × In q 
 further : (a : Assumed) (known : List Assumed) (p q : Piece) → Found known p q → Found (a ∷ known) p q
 further a known p q f = (f.0, inr f.1, f.2)
 
-assumed-found : (known : List Assumed) (p q : Piece) → assumed_apart known p q ≡ true → Found known p q
+assumed-found : (known : List Assumed) (p q : Piece) → has_pair known p q ≡ true → Found known p q
 assumed-found [] p q e = absurd (true≢false (sym e))
-assumed-found (a ∷ known) p q e = go (or-true (holds_piece p a.left && holds_piece q a.right) ((holds_piece q a.left && holds_piece p a.right) || assumed_apart known p q) e)
+assumed-found (a ∷ known) p q e = go (or-true (holds_piece p a.left && holds_piece q a.right) ((holds_piece q a.left && holds_piece p a.right) || has_pair known p q) e)
     (assumed-found known p q) where
-      go : ((holds_piece p a.left && holds_piece q a.right) ≡ true) ⊎ (((holds_piece q a.left && holds_piece p a.right) || assumed_apart known p q) ≡ true) →
-          (assumed_apart known p q ≡ true → Found known p q) → Found (a ∷ known) p q
+      go : ((holds_piece p a.left && holds_piece q a.right) ≡ true) ⊎ (((holds_piece q a.left && holds_piece p a.right) || has_pair known p q) ≡ true) →
+          (has_pair known p q ≡ true → Found known p q) → Found (a ∷ known) p q
       go (inl x) ih = let h = and-true (holds_piece p a.left) (holds_piece q a.right) x in (a, inl refl, inl (holds-in p a.left h.0, holds-in q a.right h.1))
-      go (inr x) ih = elim (or-true (holds_piece q a.left && holds_piece p a.right) (assumed_apart known p q) x) [
+      go (inr x) ih = elim (or-true (holds_piece q a.left && holds_piece p a.right) (has_pair known p q) x) [
         | inl y ↦ let h = and-true (holds_piece q a.left) (holds_piece p a.right) y in (a, inl refl, inr (holds-in q a.left h.0, holds-in p a.right h.1))
         | inr y ↦ further a known p q (ih y)
       ]
 
-found-apart : (known : List Assumed) (p q : Piece) → Found known p q → ApartPieces (map pair known) p q
-found-apart known p q f = go f.2 where
+found-apart : (known : List Assumed) (p q : Piece) → AreTwo p q → Found known p q → ApartPieces (map pair known) p q
+found-apart known p q two f = go f.2 where
   here : Contains (map pair known) (f.0.left, f.0.right)
   here = contains-in (f.0.left, f.0.right) (map pair known) (in-map pair f.0 known f.1)
 
   go : (In p (pieces f.0.left) × In q (pieces f.0.right)) ⊎ (In q (pieces f.0.left) × In p (pieces f.0.right)) → ApartPieces (map pair known) p q
-  go (inl x) = assumed here (contains-in p (pieces f.0.left) x.0) (contains-in q (pieces f.0.right) x.1)
-  go (inr x) = turned here (contains-in q (pieces f.0.left) x.0) (contains-in p (pieces f.0.right) x.1)
+  go (inl x) = assumed two here (contains-in p (pieces f.0.left) x.0) (contains-in q (pieces f.0.right) x.1)
+  go (inr x) = turned (two-turned p q two) here (contains-in q (pieces f.0.left) x.0) (contains-in p (pieces f.0.right) x.1)
 
-assumed-holds : (known : List Assumed) (p q : Piece) (r s : List Part) → In (r, s) (map pair known) → In p (pieces r) → In q (pieces s) → assumed_apart known p q ≡ true
+assumed-holds : (known : List Assumed) (p q : Piece) (r s : List Part) → In (r, s) (map pair known) → In p (pieces r) → In q (pieces s) → has_pair known p q ≡ true
 assumed-holds [] p q r s i j k = absurd i
-assumed-holds (a ∷ known) p q r s (inl e) j k = or-first (holds_piece p a.left && holds_piece q a.right) ((holds_piece q a.left && holds_piece p a.right) || assumed_apart known p q)
+assumed-holds (a ∷ known) p q r s (inl e) j k = or-first (holds_piece p a.left && holds_piece q a.right) ((holds_piece q a.left && holds_piece p a.right) || has_pair known p q)
     (and-both (holds_piece p a.left) (holds_piece q a.right)
     (in-holds p a.left (subst (λ z. In p (pieces z)) (sym (ap (λ (z : List Part × List Part). z.0) e)) j))
     (in-holds q a.right (subst (λ z. In q (pieces z)) (sym (ap (λ (z : List Part × List Part). z.1) e)) k)))
-assumed-holds (a ∷ known) p q r s (inr i) j k = or-second (holds_piece p a.left && holds_piece q a.right) ((holds_piece q a.left && holds_piece p a.right) || assumed_apart known p q)
-    (or-second (holds_piece q a.left && holds_piece p a.right) (assumed_apart known p q) (assumed-holds known p q r s i j k))
+assumed-holds (a ∷ known) p q r s (inr i) j k = or-second (holds_piece p a.left && holds_piece q a.right) ((holds_piece q a.left && holds_piece p a.right) || has_pair known p q)
+    (or-second (holds_piece q a.left && holds_piece p a.right) (has_pair known p q) (assumed-holds known p q r s i j k))
 
-turned-holds : (known : List Assumed) (p q : Piece) (r s : List Part) → In (r, s) (map pair known) → In p (pieces r) → In q (pieces s) → assumed_apart known q p ≡ true
+turned-holds : (known : List Assumed) (p q : Piece) (r s : List Part) → In (r, s) (map pair known) → In p (pieces r) → In q (pieces s) → has_pair known q p ≡ true
 turned-holds [] p q r s i j k = absurd i
-turned-holds (a ∷ known) p q r s (inl e) j k = or-second (holds_piece q a.left && holds_piece p a.right) ((holds_piece p a.left && holds_piece q a.right) || assumed_apart known q p)
-    (or-first (holds_piece p a.left && holds_piece q a.right) (assumed_apart known q p) (and-both (holds_piece p a.left) (holds_piece q a.right)
+turned-holds (a ∷ known) p q r s (inl e) j k = or-second (holds_piece q a.left && holds_piece p a.right) ((holds_piece p a.left && holds_piece q a.right) || has_pair known q p)
+    (or-first (holds_piece p a.left && holds_piece q a.right) (has_pair known q p) (and-both (holds_piece p a.left) (holds_piece q a.right)
     (in-holds p a.left (subst (λ z. In p (pieces z)) (sym (ap (λ (z : List Part × List Part). z.0) e)) j))
     (in-holds q a.right (subst (λ z. In q (pieces z)) (sym (ap (λ (z : List Part × List Part). z.1) e)) k))))
-turned-holds (a ∷ known) p q r s (inr i) j k = or-second (holds_piece q a.left && holds_piece p a.right) ((holds_piece p a.left && holds_piece q a.right) || assumed_apart known q p)
-    (or-second (holds_piece p a.left && holds_piece q a.right) (assumed_apart known q p) (turned-holds known p q r s i j k))
+turned-holds (a ∷ known) p q r s (inr i) j k = or-second (holds_piece q a.left && holds_piece p a.right) ((holds_piece p a.left && holds_piece q a.right) || has_pair known q p)
+    (or-second (holds_piece p a.left && holds_piece q a.right) (has_pair known q p) (turned-holds known p q r s i j k))
 
 -- ---- pieces
 
@@ -150,15 +171,15 @@ literals-differ a b n = elim (cases_Bool (bytes_eq a b)) [ inl x ↦ absurd (n (
 pub tested-apart : (known : List Assumed) (p q : Piece) → (differ p q || assumed_apart known p q) ≡ true → ApartPieces (map pair known) p q
 tested-apart known p q e = elim (or-true (differ p q) (assumed_apart known p q) e) [
   | inl x ↦ differ-apart (map pair known) p q x
-  | inr x ↦ found-apart known p q (assumed-found known p q x)
+  | inr x ↦ let h = and-true (not (one_name p q)) (has_pair known p q) x in found-apart known p q (is-two p q h.0) (assumed-found known p q h.1)
 ]
 
 pub apart-tested : (known : List Assumed) (p q : Piece) → ApartPieces (map pair known) p q → (differ p q || assumed_apart known p q) ≡ true
 apart-tested known p q (literals {a = a} {b = b} n) = or-first (not (bytes_eq a b)) (assumed_apart known p q) (literals-differ a b n)
-apart-tested known p q (assumed {r = r} {s = s} c i j) = or-second (differ p q) (assumed_apart known p q)
-    (assumed-holds known p q r s (in-contains (r, s) (map pair known) c) (in-contains p (pieces r) i) (in-contains q (pieces s) j))
-apart-tested known p q (turned {r = r} {s = s} c i j) = or-second (differ p q) (assumed_apart known p q)
-    (turned-holds known q p r s (in-contains (r, s) (map pair known) c) (in-contains q (pieces r) i) (in-contains p (pieces s) j))
+apart-tested known p q (assumed {r = r} {s = s} two c i j) = or-second (differ p q) (assumed_apart known p q) (and-both (not (one_name p q)) (has_pair known p q) (two-is p q two)
+    (assumed-holds known p q r s (in-contains (r, s) (map pair known) c) (in-contains p (pieces r) i) (in-contains q (pieces s) j)))
+apart-tested known p q (turned {r = r} {s = s} two c i j) = or-second (differ p q) (assumed_apart known p q) (and-both (not (one_name p q)) (has_pair known p q) (two-is p q (two-turned q p two))
+    (turned-holds known q p r s (in-contains (r, s) (map pair known) c) (in-contains q (pieces r) i) (in-contains p (pieces s) j)))
 
 -- ---- rows
 

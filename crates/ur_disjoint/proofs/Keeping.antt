@@ -107,8 +107,8 @@ module _ (args : List Normal) where
 
 other_way : {known : Assumptions} (p q : Piece) → ApartPieces known p q → ApartPieces known q p
 other_way p q (literals n) = literals (λ e. n (sym e))
-other_way p q (assumed c i j) = turned c i j
-other_way p q (turned c i j) = assumed c i j
+other_way p q (assumed two c i j) = turned two c i j
+other_way p q (turned two c i j) = assumed two c i j
 
 pub apart-kept : ApartIsKept
 apart-kept known known' args r s holds h x y i j = go (row-in args x r (in-contains x (pieces (instance_row args r)) i)) (row-in args y s (in-contains y (pieces (instance_row args s)) j)) where
@@ -116,10 +116,10 @@ apart-kept known known' args r s holds h x y i j = go (row-in args x r (in-conta
   pair p q (literals {a = a} {b = b} n) (inl e) (inl f) = subst (λ z. ApartPieces known' z y) e (subst (λ z. ApartPieces known' (name (label.Literal a)) z) f (literals n))
   pair p q (literals n) (inr e) f = absurd e
   pair p q (literals n) (inl e) (inr f) = absurd f
-  pair p q (assumed {r = a} {s = b} c k l) e f = holds a b c x y
+  pair p q (assumed {r = a} {s = b} two c k l) e f = holds a b c x y
       (contains-in x (pieces (instance_row args a)) (in-row args x p a (in-contains p (pieces a) k) e))
       (contains-in y (pieces (instance_row args b)) (in-row args y q b (in-contains q (pieces b) l) f))
-  pair p q (turned {r = a} {s = b} c k l) e f = other_way y x (holds a b c y x
+  pair p q (turned {r = a} {s = b} two c k l) e f = other_way y x (holds a b c y x
       (contains-in y (pieces (instance_row args a)) (in-row args y q a (in-contains q (pieces a) k) f))
       (contains-in x (pieces (instance_row args b)) (in-row args x p b (in-contains p (pieces b) l) e)))
 

@@ -1,7 +1,7 @@
 ghost use Rattle.std.specs.Prelude.{◌≡◌, ◌↔◌, IsTrue, map};
 ghost use Rattle.ur_rows.specs.Apart.{Apart, AreApart, piece_of};
 ghost use Rattle.ur_rows.specs.Types.{same_var, same_label};
-ghost use Rattle.ur_disjoint.specs.Tests.{same_piece, holds_piece, labels_differ, differ, assumed_apart, apart_from, is_apart, all_apart, pair};
+ghost use Rattle.ur_disjoint.specs.Tests.{same_piece, holds_piece, labels_differ, differ, one_name, has_pair, assumed_apart, apart_from, is_apart, all_apart, pair};
 ghost use Rattle.ur_disjoint.specs.Kept.{ApartIsKept};
 
 use ur_base::List;
@@ -103,8 +103,22 @@ fn holds_piece(p: &Part, row: &[Part]) -> bool
     false
 }
 
-fn assumed_apart(assumed: &[Assumed], p: &Part, q: &Part) -> bool
-    ensures { result ≡ assumed_apart assumed.now (piece_of p.now) (piece_of q.now) }
+fn one_name(a: &Part, b: &Part) -> bool
+    ensures { result ≡ one_name (piece_of a.now) (piece_of b.now) }
+{
+    match a {
+        Part::Field(l, _) => match b {
+            Part::Field(m, _) => same_label(l, m),
+            Part::Piece(_) => false,
+            Part::Mapped(_, _) => false,
+        },
+        Part::Piece(_) => false,
+        Part::Mapped(_, _) => false,
+    }
+}
+
+fn has_pair(assumed: &[Assumed], p: &Part, q: &Part) -> bool
+    ensures { result ≡ has_pair assumed.now (piece_of p.now) (piece_of q.now) }
 {
     for i in 0..assumed.len() {
         let left = assumed[i].left.as_slice();
@@ -117,6 +131,12 @@ fn assumed_apart(assumed: &[Assumed], p: &Part, q: &Part) -> bool
         }
     }
     false
+}
+
+fn assumed_apart(assumed: &[Assumed], p: &Part, q: &Part) -> bool
+    ensures { result ≡ assumed_apart assumed.now (piece_of p.now) (piece_of q.now) }
+{
+    !one_name(p, q) && has_pair(assumed, p, q)
 }
 
 fn apart_from(assumed: &[Assumed], p: &Part, row: &[Part]) -> bool
