@@ -1,5 +1,5 @@
 -- Records and `let`: where the walk has no answer there is a fault.
-use Rattle.std.proofs.Common.{inl, inr, ◌⊎◌, ◌≡◌, refl, sym, true, false, true≢false, Option, Some, None, List, [], ◌∷◌, ℕ}
+use Rattle.std.proofs.Common.{inl, inr, ◌⊎◌, ◌≡◌, refl, sym, true, true≢false, Option, Some, None, List, [], ◌∷◌, ℕ}
 use Rattle.std.specs.Prelude.{option_map, option_and_then}
 use mathlib.Core.Former.{Count}
 use Rattle.ur_base.specs.Shape.{Shape, count}

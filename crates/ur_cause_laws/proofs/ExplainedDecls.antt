@@ -56,7 +56,7 @@ use Rattle.ur_type_rules.specs.Arguments.{BreaksPlace, BreaksParameter, BreaksWr
 use Rattle.ur_type_rules.specs.Rules.{if_so, Params, and_params, small_type, param_out}
 use Rattle.ur_type_rules.proofs.Options.{some_none, some_of, opened, opened_if, mapped, then_none_is, if_none_is, map_none_is, map_none, both_false, not_false, not_all_is}
 use Rattle.ur_type_rules.proofs.Written.{place_broken, parameter_broken, written_broken, large_broken}
-use Rattle.ur_cause_laws.specs.Converse.{SqlIsExplained, IsFaulty, Explained, NoneProjectIsFaulty}
+use Rattle.ur_cause_laws.specs.Converse.{IsFaulty, Explained, NoneProjectIsFaulty}
 use Rattle.ur_cause_laws.proofs.Refusals.{none_is_faulty}
 use Rattle.ur_cause_laws.proofs.ExplainedTables.{tell, defined_broken, datatype_broken, table_broken, cookie_broken, small_is, large_is}
 use Rattle.ur_cause_laws.proofs.Counted.{IsCounted, world_of, looked_in, head_counted, val_counted, variant_counted, sequence_counted, cookie_counted, defined_counted, datatype_counted, shape_counted, entered_counted, nothing_counted}
@@ -284,15 +284,15 @@ bodies_faulty most home (decl.Cookie x c) z after k l ed b h = absurd (some_none
 
 -- ---- modules
 
-typings : SqlIsExplained → (most : ℕ) (z : Sofar) → IsCounted z → Typings most z
-typings sql most z k x = none_is_faulty sql (datatype_names z) (world_behind most z) (world_of most z k) x
+typings : (most : ℕ) (z : Sofar) → IsCounted z → Typings most z
+typings most z k x = none_is_faulty (datatype_names z) (world_behind most z) (world_of most z k) x
 
 abbrev bodied : ℕ → ℕ → Decl → List Decl → Checked → Sofar → Option Checked
 bodied most home d ds p after = option_and_then (λ b. decls_out most home ds (after, b)) (bodies_out most d.form p.0 after p.1)
 
-decls_faulty : SqlIsExplained → (most home : ℕ) (ds : List Decl) (p : Checked) → IsCounted p.0 → decls_out most home ds p ≡ None → (r : Refusal) × DeclsHaveFault most home r ds p
-decls_faulty sql most home [] p k h = absurd (some_none h)
-decls_faulty sql most home (d ∷ ds) p k h = elim (then_none_is (bodied most home d ds p) (decl_out most home d.form p.0) h) [
+decls_faulty : (most home : ℕ) (ds : List Decl) (p : Checked) → IsCounted p.0 → decls_out most home ds p ≡ None → (r : Refusal) × DeclsHaveFault most home r ds p
+decls_faulty most home [] p k h = absurd (some_none h)
+decls_faulty most home (d ∷ ds) p k h = elim (then_none_is (bodied most home d ds p) (decl_out most home d.form p.0) h) [
   | inl a ↦
       let b : (f : Fault) × BreaksDecl most home p.0 d.form f = decl_broken most home d.form p.0 a in
       let t : (r : Refusal) × Tells (names_within home d.form p.0) r b.0 = tell (names_within home d.form p.0) b.0 in
@@ -300,8 +300,8 @@ decls_faulty sql most home (d ∷ ds) p k h = elim (then_none_is (bodied most ho
   | inr after ↦
       let c : IsCounted after.0 = decl_counted most home d.form p.0 after.0 after.1 k in
       elim (then_none_is (λ b. decls_out most home ds (after.0, b)) (bodies_out most d.form p.0 after.0 p.1) after.2) [
-        | inl a ↦ let r : (r : Refusal) × BodiesHaveFault most p.0 after.0 p.1 r d.form = bodies_faulty most home d.form p.0 after.0 (typings sql most p.0 k) (typings sql most after.0 c) after.1 p.1 a in (r.0, in_bodies after.1 r.1)
-        | inr b ↦ let r : (r : Refusal) × DeclsHaveFault most home r ds (after.0, b.0) = decls_faulty sql most home ds (after.0, b.0) c b.2 in (r.0, in_later_decl after.1 b.1 r.1)
+        | inl a ↦ let r : (r : Refusal) × BodiesHaveFault most p.0 after.0 p.1 r d.form = bodies_faulty most home d.form p.0 after.0 (typings most p.0 k) (typings most after.0 c) after.1 p.1 a in (r.0, in_bodies after.1 r.1)
+        | inr b ↦ let r : (r : Refusal) × DeclsHaveFault most home r ds (after.0, b.0) = decls_faulty most home ds (after.0, b.0) c b.2 in (r.0, in_later_decl after.1 b.1 r.1)
       ]
 ]
 
@@ -312,12 +312,12 @@ decls_counted most home (d ∷ ds) p q h k =
     let b : (b : Bodies) × (bodies_out most d.form p.0 a.0 p.1 ≡ Some b) × (decls_out most home ds (a.0, b) ≡ Some q) = opened _ _ q a.2 in
     decls_counted most home ds (a.0, b.0) q b.2 (decl_counted most home d.form p.0 a.0 a.1 k)
 
-modules_faulty : SqlIsExplained → (most n : ℕ) (names : List (List ℕ)) (modules : List Module) (p : Checked) → IsCounted p.0 → modules_out most n names modules p ≡ None → (r : Refusal) × ModulesHaveFault most r n names modules p
-modules_faulty sql most n [] modules p k h = absurd (some_none h)
-modules_faulty sql most n (m ∷ names) [] p k h = absurd (some_none h)
-modules_faulty sql most n (m ∷ names) (x ∷ modules) p k h = elim (then_none_is (modules_out most (n + 1) names modules) (decls_out most n x.decls (entered m p)) h) [
-  | inl a ↦ let r : (r : Refusal) × DeclsHaveFault most n r x.decls (entered m p) = decls_faulty sql most n x.decls (entered m p) (entered_counted m p.0 k) a in (r.0, in_module r.1)
-  | inr q ↦ let r : (r : Refusal) × ModulesHaveFault most r (n + 1) names modules q.0 = modules_faulty sql most (n + 1) names modules q.0 (decls_counted most n x.decls (entered m p) q.0 q.1 (entered_counted m p.0 k)) q.2 in (r.0, in_later_module q.1 r.1)
+modules_faulty : (most n : ℕ) (names : List (List ℕ)) (modules : List Module) (p : Checked) → IsCounted p.0 → modules_out most n names modules p ≡ None → (r : Refusal) × ModulesHaveFault most r n names modules p
+modules_faulty most n [] modules p k h = absurd (some_none h)
+modules_faulty most n (m ∷ names) [] p k h = absurd (some_none h)
+modules_faulty most n (m ∷ names) (x ∷ modules) p k h = elim (then_none_is (modules_out most (n + 1) names modules) (decls_out most n x.decls (entered m p)) h) [
+  | inl a ↦ let r : (r : Refusal) × DeclsHaveFault most n r x.decls (entered m p) = decls_faulty most n x.decls (entered m p) (entered_counted m p.0 k) a in (r.0, in_module r.1)
+  | inr q ↦ let r : (r : Refusal) × ModulesHaveFault most r (n + 1) names modules q.0 = modules_faulty most (n + 1) names modules q.0 (decls_counted most n x.decls (entered m p) q.0 q.1 (entered_counted m p.0 k)) q.2 in (r.0, in_later_module q.1 r.1)
 ]
 
 modules_counted : (most n : ℕ) (names : List (List ℕ)) (modules : List Module) (p q : Checked) → modules_out most n names modules p ≡ Some q → IsCounted p.0 → IsCounted q.0
@@ -364,10 +364,10 @@ signature_faulty most start names modules signature p ep k (Some s) e h = let r 
 
 -- where a project is not typed, there is a fault in it
 pub project_faulty : NoneProjectIsFaulty
-project_faulty sql most fields names modules signature h =
+project_faulty most fields names modules signature h =
     let start : Checked = nothing_yet (nothing_declared fields) in
     let k : IsCounted start.0 = nothing_counted fields in
     elim (then_none_is (λ p. option_map (ended p) (entries_out most p.0 (pred (length names)) signature)) (modules_out most 0 names modules start) h) [
-      | inl a ↦ let r : (r : Refusal) × ModulesHaveFault most r 0 names modules start = modules_faulty sql most 0 names modules start k a in (r.0, in_modules r.1)
+      | inl a ↦ let r : (r : Refusal) × ModulesHaveFault most r 0 names modules start = modules_faulty most 0 names modules start k a in (r.0, in_modules r.1)
       | inr p ↦ signature_faulty most start names modules signature p.0 p.1 (modules_counted most 0 names modules start p.0 p.1 k) signature refl (map_none_is (ended p.0) (entries_out most p.0.0 (pred (length names)) signature) p.2)
     ]

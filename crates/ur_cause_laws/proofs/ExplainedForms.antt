@@ -50,7 +50,9 @@ use Rattle.ur_typed.specs.Walking.{typed, branches_walk, antiquotes_walk, cookie
 use Rattle.ur_typed.specs.Parts.{InBranches, this_branch, later_branch, InAntiquotes, this_antiquote, later_antiquote, first_field}
 use Rattle.ur_typed.specs.Faults.{BreaksParams, this_param, later_param, BreaksRowFunction, BreaksStep, BreaksPattern, later_pattern, this_pattern}
 use Rattle.ur_typed.specs.Causes.{IsNoKind, this_kind, later_kind, is_lambda, is_record}
-use Rattle.ur_cause_laws.specs.Converse.{IsWorld, SqlIsExplained, IsFaulty, Explained}
+use Rattle.ur_sqlcause_laws.proofs.Queries.{query_faulty}
+use Rattle.ur_sqlcause_laws.proofs.Changes.{change_faulty}
+use Rattle.ur_cause_laws.specs.Converse.{IsWorld, IsFaulty, Explained}
 use Rattle.ur_cause_laws.proofs.Converse.{here_faulty, part_faulty, explained_by}
 use Rattle.ur_cause_laws.proofs.ExplainedNames.{cookie_unknown}
 use Rattle.ur_type_rules.specs.Faults.{Fault}
@@ -240,10 +242,10 @@ data QueryFault (w : World) (q : SqlQuery) (a : Antiquotes) : Type 0 where
   of_kind_none : {t : NormalType} → IsNoKind a.types t → QueryFault w q a
   of_query : {kinds : List ColumnKind} {r : Refusal} → all_of type_kind a.types ≡ Some kinds → QueryHasFault w.globals.home w.globals.tables w.fields kinds q r → QueryFault w q a
 
-query_fault : SqlIsExplained → (w : World) (q : SqlQuery) (a : Antiquotes) → query_at w q a ≡ None → QueryFault w q a
-query_fault sql w q a h = elim (then_none_is (λ kinds. query_of w.globals.home w.globals.tables w.fields kinds q) (all_of type_kind a.types) h) [
+query_fault : (w : World) (q : SqlQuery) (a : Antiquotes) → query_at w q a ≡ None → QueryFault w q a
+query_fault w q a h = elim (then_none_is (λ kinds. query_of w.globals.home w.globals.tables w.fields kinds q) (all_of type_kind a.types) h) [
   | inl n ↦ let t : (t : NormalType) × IsNoKind a.types t = no_kind_of a.types n in of_kind_none t.1
-  | inr k ↦ let r : (r : Refusal) × QueryHasFault w.globals.home w.globals.tables w.fields k.0 q r = sql.queries w.globals.home w.globals.tables w.fields k.0 q k.2 in of_query k.1 r.1
+  | inr k ↦ let r : (r : Refusal) × QueryHasFault w.globals.home w.globals.tables w.fields k.0 q r = query_faulty w.globals.home w.globals.tables w.fields k.0 q k.2 in of_query k.1 r.1
 ]
 
 abbrev asked_of : World → QueryWord → Sites → Antiquotes → Query → Option Out
@@ -253,24 +255,24 @@ query_by : (names : List (List ℕ)) (w : World) (s : Scope) (st : Sites) (m : M
 query_by names w s st m how q n args a ea (of_kind_none r) = here_faulty _ (Causes.antiquote_kind ea r)
 query_by names w s st m how q n args a ea (of_query ek r) = here_faulty _ (Causes.bad_query ea ek r)
 
-pub query_explained : SqlIsExplained → (names : List (List ℕ)) (w : World) (how : QueryWord) (q : SqlQuery) (n : Shape) (args : Row_of-Exp (count n)) → RowExplained names w args → Explained names w (e.Query' how q n args)
-query_explained sql names w how q n args k = explained_by names w (e.Query' how q n args) (λ s st m h.
+pub query_explained : (names : List (List ℕ)) (w : World) (how : QueryWord) (q : SqlQuery) (n : Shape) (args : Row_of-Exp (count n)) → RowExplained names w args → Explained names w (e.Query' how q n args)
+query_explained names w how q n args k = explained_by names w (e.Query' how q n args) (λ s st m h.
     elim (then_none_is (λ a. option_and_then (asked_of w how st a) (query_at w q a)) (antiquotes_walk w args s (with_query_slot st)) h) [
       | inl z ↦ let b : BadAntiquote names w s _ args (with_query_slot st) = antiquotes_explained names w s _ args k (with_query_slot st) z in part_faulty (Parts.antiquote b.stands) b.faulty
-      | inr a ↦ elim (then_none_is (asked_of w how st a.0) (query_at w q a.0) a.2) [ inl z ↦ query_by names w s st m how q n args a.0 a.1 (query_fault sql w q a.0 z) | inr z ↦ absurd (some_none z.2) ]
+      | inr a ↦ elim (then_none_is (asked_of w how st a.0) (query_at w q a.0) a.2) [ inl z ↦ query_by names w s st m how q n args a.0 a.1 (query_fault w q a.0 z) | inr z ↦ absurd (some_none z.2) ]
     ])
 
 abbrev written_of : Sites → Antiquotes → Change → Option Out
 written_of st a d = gives (transaction_of unit) (exp.Write' (length st.changes) a.exps.0 a.exps.1) (with_change (length st.changes) d a.sites)
 
-pub change_explained : SqlIsExplained → (names : List (List ℕ)) (w : World) (u : SqlChange) (n : Shape) (args : Row_of-Exp (count n)) → RowExplained names w args → Explained names w (e.Dml' u n args)
-change_explained sql names w u n args k = explained_by names w (e.Dml' u n args) (λ s st m h.
+pub change_explained : (names : List (List ℕ)) (w : World) (u : SqlChange) (n : Shape) (args : Row_of-Exp (count n)) → RowExplained names w args → Explained names w (e.Dml' u n args)
+change_explained names w u n args k = explained_by names w (e.Dml' u n args) (λ s st m h.
     elim (then_none_is (λ a. option_and_then (written_of st a) (change_at w u a)) (antiquotes_walk w args s (with_change_slot st)) h) [
       | inl z ↦ let b : BadAntiquote names w s _ args (with_change_slot st) = antiquotes_explained names w s _ args k (with_change_slot st) z in part_faulty (Parts.change_antiquote b.stands) b.faulty
       | inr a ↦ elim (then_none_is (written_of st a.0) (change_at w u a.0) a.2) [
         | inl z ↦ elim (then_none_is (λ kinds. change_of w.globals.home w.globals.tables kinds u) (all_of type_kind a.0.types) z) [
           | inl y ↦ let t : (t : NormalType) × IsNoKind a.0.types t = no_kind_of a.0.types y in here_faulty _ (Causes.change_antiquote_kind a.1 t.1)
-          | inr c ↦ let r : (r : Refusal) × ChangeHasFault w.globals.home w.globals.tables c.0 u r = sql.changes w.globals.home w.globals.tables c.0 u c.2 in here_faulty _ (Causes.bad_change a.1 c.1 r.1)
+          | inr c ↦ let r : (r : Refusal) × ChangeHasFault w.globals.home w.globals.tables c.0 u r = change_faulty w.globals.home w.globals.tables c.0 u c.2 in here_faulty _ (Causes.bad_change a.1 c.1 r.1)
         ]
         | inr z ↦ absurd (some_none z.2)
       ]
@@ -338,12 +340,12 @@ function_faulty names w s st m q n args p y a d ea ed k h = by_lambda (is_lambda
       (row_faulty names w s st m q n args p l.1 l.0 l.2 a d ea ed (subst (BodyExplained names w) l.3 k) (subst (λ z. each_of w s st m p z a d ≡ None) l.3 h))
   by_lambda false i = here_faulty _ (Causes.no_row_function i)
 
-pub rows_explained : SqlIsExplained → (names : List (List ℕ)) (w : World) (q : SqlQuery) (n : Shape) (args : Row_of-Exp (count n)) (p : Span) (y : ExpForm) → RowExplained names w args → BodyExplained names w y → Explained names w (e.QueryX' q n args tt (its p y alone))
-rows_explained sql names w q n args p y k kb = explained_by names w (e.QueryX' q n args tt (its p y alone)) (λ s st m h.
+pub rows_explained : (names : List (List ℕ)) (w : World) (q : SqlQuery) (n : Shape) (args : Row_of-Exp (count n)) (p : Span) (y : ExpForm) → RowExplained names w args → BodyExplained names w y → Explained names w (e.QueryX' q n args tt (its p y alone))
+rows_explained names w q n args p y k kb = explained_by names w (e.QueryX' q n args tt (its p y alone)) (λ s st m h.
     elim (then_none_is (λ a. option_and_then (each_of w s st m p y a) (query_at w q a)) (antiquotes_walk w args s (with_query_slot st)) h) [
       | inl z ↦ let b : BadAntiquote names w s _ args (with_query_slot st) = antiquotes_explained names w s _ args k (with_query_slot st) z in part_faulty (Parts.row_antiquote b.stands) b.faulty
       | inr a ↦ elim (then_none_is (each_of w s st m p y a.0) (query_at w q a.0) a.2) [
-        | inl z ↦ rows_by names w s st m q n args p y a.0 a.1 (query_fault sql w q a.0 z)
+        | inl z ↦ rows_by names w s st m q n args p y a.0 a.1 (query_fault w q a.0 z)
         | inr d ↦ function_faulty names w s st m q n args p y a.0 d.0 a.1 d.1 kb d.2
       ]
     ])

@@ -2,22 +2,16 @@
 use Rattle.std.specs.Prelude.{◌≡◌, ℕ, true, List, Option, Some, None, nat_lt, slice_get}
 use Rattle.ur_base.specs.declared.refusal.Refusal.{Refusal}
 use Rattle.ur_syntax.specs.declared.con.ConName.{ConName}
-use Rattle.ur_syntax.specs.declared.sql.SqlQuery.{SqlQuery}
-use Rattle.ur_syntax.specs.declared.sql.SqlChange.{SqlChange}
 use Rattle.ur_syntax.specs.declared.exp.ExpForm.{ExpForm}
 use Rattle.ur_values.specs.declared.schema.ColumnKind.{ColumnKind}
-use Rattle.ur_values.specs.declared.schema.Schema.{Schema}
 use Rattle.ur_rows.specs.declared.normal.NormalType.{NormalType}
 use Rattle.ur_tree.specs.Heads.{Head}
 use Rattle.ur_type_conditions.specs.Names.{function, val, declared}
 use Rattle.ur_type_conditions.specs.Scopes.{World, Scope, Mode}
-use Rattle.ur_sqltype.specs.Query.{query_of}
-use Rattle.ur_sqltype.specs.Change.{change_of}
 use Rattle.ur_typed.specs.Rules.{Sites}
 use Rattle.ur_typed.specs.Walking.{typed}
 use Rattle.ur_typed.specs.Parts.{StandsIn}
 use Rattle.ur_typed.specs.Causes.{Breaks}
-use Rattle.ur_sqltype.specs.Faults.{QueryHasFault, ChangeHasFault}
 use Rattle.ur_type_rules.specs.Faults.{Fault}
 use Rattle.ur_syntax.specs.declared.decl.Module.{Module}
 use Rattle.ur_syntax.specs.declared.decl.Signature.{Signature}
@@ -47,16 +41,11 @@ pub record IsWorld (w : World) : Type 0 where
   pub sequences : (x : ConName) (n : ℕ) → declared w.globals x w.globals.sequences ≡ Some n → nat_lt n w.declared.sequences ≡ true
   pub cookies : (x : ConName) (n : ℕ) → declared w.globals x w.globals.cookies ≡ Some n → (k : ColumnKind) × (slice_get w.declared.cookies n ≡ Some k)
 
--- where a query or a change stands for no core, it has a fault
-pub record SqlIsExplained : Type 0 where
-  pub queries : (m : List ℕ) (tables : Schema) (names : List (List ℕ)) (kinds : List ColumnKind) (q : SqlQuery) → query_of m tables names kinds q ≡ None → (r : Refusal) × QueryHasFault m tables names kinds q r
-  pub changes : (m : List ℕ) (tables : Schema) (kinds : List ColumnKind) (u : SqlChange) → change_of m tables kinds u ≡ None → (r : Refusal) × ChangeHasFault m tables kinds u r
-
 -- Where an expression is not typed, there is a fault in it.
 abbrev pub NoneIsFaulty : Type 0
-NoneIsFaulty = SqlIsExplained → (names : List (List ℕ)) (w : World) → IsWorld w → (x : ExpForm) → Explained names w x
+NoneIsFaulty = (names : List (List ℕ)) (w : World) → IsWorld w → (x : ExpForm) → Explained names w x
 
 -- Where a project is not typed, there is a fault in it.
 abbrev pub NoneProjectIsFaulty : Type 0
-NoneProjectIsFaulty = SqlIsExplained → (most : ℕ) (fields : List (List ℕ)) (names : List (List ℕ)) (modules : List Module) (signature : Option Signature) →
+NoneProjectIsFaulty = (most : ℕ) (fields : List (List ℕ)) (names : List (List ℕ)) (modules : List Module) (signature : Option Signature) →
     project_out most (nothing_yet (nothing_declared fields)) names modules signature ≡ None → (r : Refusal) × ProjectHasFault most (nothing_yet (nothing_declared fields)) names modules signature r

@@ -1,11 +1,11 @@
 ghost use Rattle.ur_cause_laws.specs.Converse.{NoneIsFaulty, NoneProjectIsFaulty};
 
-/// What is not typed has a fault, where queries and changes without a core have theirs.
+/// What is not typed has a fault.
 pub fn none_is_faulty()
     ensures { NoneIsFaulty }
 {}
 
-/// A project that is not typed has a fault, where queries and changes without a core have theirs.
+/// A project that is not typed has a fault.
 pub fn none_project_is_faulty()
     ensures { NoneProjectIsFaulty }
 {}

@@ -132,7 +132,7 @@ step_judged w s u finds q bound o z eb j i k = (bound, z.patterns, refl, eb, sub
 step_judged w s u (wants t) q bound o z eb j i k = (i ∙ j.0, (bound, z.patterns, refl, eb, j.1, j.2, subst (λ v. WantBranches w.declared w.most s.env u z.exps.1 z.patterns v) j.0 k))
 
 -- what a pattern binds does not depend on the queries and changes
-bound_stated : (d : Statements) (w : World) (u : NormalType) (p : Pattern) → bound_by w.declared u p ≡ bound_by (stated d w).declared u p
+pub bound_stated : (d : Statements) (w : World) (u : NormalType) (p : Pattern) → bound_by w.declared u p ≡ bound_by (stated d w).declared u p
 bound_stated d w u pattern.Any = refl
 bound_stated d w u (pattern.Int n) = refl
 bound_stated d w u (pattern.Str t) = refl
@@ -150,7 +150,7 @@ constructors_stated d w (ty.Many' _ t) = refl
 constructors_stated d w (ty.Datatype k) = refl
 constructors_stated d w _ = refl
 
-covers_stated : (d : Statements) (w : World) (u : NormalType) (ps : List Pattern) → covers w.declared u ps ≡ covers (stated d w).declared u ps
+pub covers_stated : (d : Statements) (w : World) (u : NormalType) (ps : List Pattern) → covers w.declared u ps ≡ covers (stated d w).declared u ps
 covers_stated d w u ps = ap (λ z. are_once same_pattern ps && (last_is_any ps || has_all z ps)) (constructors_stated d w u)
 
 branches_sound : (w : World) (n : Count) (bs : Row_of-Branch n) → AreSound w bs → (s : Scope) → BranchesAreKinded s.names.cons bs → (u : NormalType) (st : Sites) (m : Mode) (b : Branches) → branches_walk w bs s u st m ≡ Some b → (d : Statements) → Fills w d b.sites → BranchesAreSound w n bs s u st m d b

@@ -1,7 +1,7 @@
 mod All
 pub mod Applications
 pub mod Binding
-mod Branching
+pub mod Branching
 mod Elements
 mod Folding
 mod Forms
@@ -12,6 +12,6 @@ pub mod Numbers
 mod Records
 mod Sound
 mod Sql
-mod Stating
-mod Tagging
-mod Wanting
+pub mod Stating
+pub mod Tagging
+pub mod Wanting

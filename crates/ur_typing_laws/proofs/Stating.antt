@@ -116,7 +116,7 @@ slot_there xs all ys a h = ap (λ z. slice_get z (length xs)) (filled_slot xs al
 behind_slot : {A : Type 0} (xs : List (Option A)) (ns : List ℕ) → CountsFrom (length (xs ++ None ∷ [])) ns → CountsFrom (length xs + 1) ns
 behind_slot xs ns h = subst (λ z. CountsFrom z ns) (length-append xs (None ∷ [])) h
 
-query_numbered : (st su : Sites) (os : List Occurrence) (q : Query) → Numbered (with_query_slot st) os su → Numbered st (site (length st.queries) ∷ os) (with_query (length st.queries) q su)
+pub query_numbered : (st su : Sites) (os : List Occurrence) (q : Query) → Numbered (with_query_slot st) os su → Numbered st (site (length st.queries) ∷ os) (with_query (length st.queries) q su)
 query_numbered st su os q n = record {
   queries = Some q ∷ n.queries;
   changes = n.changes;
@@ -128,7 +128,7 @@ query_numbered st su os q n = record {
   how_many_updates = n.how_many_updates;
 }
 
-change_numbered : (st su : Sites) (os : List Occurrence) (u : Change) → Numbered (with_change_slot st) os su → Numbered st (update (length st.changes) ∷ os) (with_change (length st.changes) u su)
+pub change_numbered : (st su : Sites) (os : List Occurrence) (u : Change) → Numbered (with_change_slot st) os su → Numbered st (update (length st.changes) ∷ os) (with_change (length st.changes) u su)
 change_numbered st su os u n = record {
   queries = n.queries;
   changes = Some u ∷ n.changes;
@@ -165,7 +165,7 @@ record Asked (w : World) (s : Scope) (st : Sites) (n : Shape) (args : Row_of-Exp
   there : slice_get d.queries (length st.queries) ≡ Some c
   row : slice_get (stated d w).declared.queries (length st.queries) ≡ Some (c.params, query_row w.fields c)
 
-abbrev columns_of : World → Query → List ColumnKind × List RowPart
+abbrev pub columns_of : World → Query → List ColumnKind × List RowPart
 columns_of w q = (q.params, query_row w.fields q)
 
 asked : (w : World) (s : Scope) (st : Sites) (n : Shape) (args : Row_of-Exp (count n)) (q : SqlQuery) (a : Antiquotes) (c : Query) (d : Statements) → RowIsSound w args → AreKinded s.names.cons args → antiquotes_walk w args s (with_query_slot st) ≡ Some a → query_at w q a ≡ Some c →
@@ -193,7 +193,7 @@ is_answer word.QueryL = resolves.IsAnswer.all
 is_answer word.OneRow = resolves.IsAnswer.one
 is_answer word.OneOrNoRows = resolves.IsAnswer.one_or_none
 
-abbrev asked_of : World → QueryWord → Sites → Antiquotes → Query → Option Out
+abbrev pub asked_of : World → QueryWord → Sites → Antiquotes → Query → Option Out
 asked_of w how st a c = gives (transaction_of (answer_type (answer_of how) (query_row w.fields c))) (exp.Ask' (answer_of how) (length st.queries) a.exps.0 a.exps.1) (with_query (length st.queries) c a.sites)
 
 pub query_sound : AreTold → (w : World) (how : QueryWord) (q : SqlQuery) (n : Shape) (args : Row_of-Exp (count n)) → RowIsSound w args → Sound w (e.Query' how q n args)
@@ -210,10 +210,10 @@ query_sound told w how q n args k s kd st m o h d g =
 
 -- ---- changes
 
-abbrev written_of : Sites → Antiquotes → Change → Option Out
+abbrev pub written_of : Sites → Antiquotes → Change → Option Out
 written_of st a c = gives (transaction_of unit) (exp.Write' (length st.changes) a.exps.0 a.exps.1) (with_change (length st.changes) c a.sites)
 
-abbrev params_of : Change → List ColumnKind
+abbrev pub params_of : Change → List ColumnKind
 params_of u = u.params
 
 pub change_sound : AreTold → (w : World) (u : SqlChange) (n : Shape) (args : Row_of-Exp (count n)) → RowIsSound w args → Sound w (e.Dml' u n args)
@@ -263,13 +263,13 @@ each_resolves told w s d q n args p (lambda_param.Typed (written_param.Value y c
     resolves.query_each_typed (query_row w.fields c) th core (ap (λ z. query_row z c) en) i ra (subst (λ v. Resolves d w.most w.globals (stated d w).declared (with_local (here.value (bound_name v)) s.names) b B) (sym (some_of u.1)) rb)
 each_resolves told w s d q n args p _ r b k c z out B x kd en h th core ra rb = cc
 
-abbrev rows_at : World → Scope → Sites → Mode → Antiquotes → Query → ExpForm → Binder → Option Out
+abbrev pub rows_at : World → Scope → Sites → Mode → Antiquotes → Query → ExpForm → Binder → Option Out
 rows_at w s st m a c b x = typed w b (within_binder x (record_of (query_row w.fields c)) s) (with_query (length st.queries) c a.sites) (of_transaction m)
 
-abbrev shown_rows : Sites → Antiquotes → Out → Sort → Option Out
+abbrev pub shown_rows : Sites → Antiquotes → Out → Sort → Option Out
 shown_rows st a o sort = gives (transaction_of o.of) (make.each (length st.queries) a.exps.0 a.exps.1 o.exp) o.sites
 
-abbrev each_of : World → Scope → Sites → Mode → Span → ExpForm → Antiquotes → Query → Option Out
+abbrev pub each_of : World → Scope → Sites → Mode → Span → ExpForm → Antiquotes → Query → Option Out
 each_of w s st m p y a c = option_and_then (rows_out st a) (row_walk w (its p y alone) s (query_row w.fields c) (with_query (length st.queries) c a.sites) (of_transaction m))
 
 each_judged : AreTold → (w : World) (s : Scope) (m : Mode) (k : ℕ) (z : Shape) (out : Row_of-Resolved (count z)) (b : Exp) (t : NormalType) (c : List ColumnKind × List RowPart) (x : Binder) (o : Sort) → slice_get w.declared.queries k ≡ Some c → AreFound w.declared w.most s.env out (map kind_type c.0) →

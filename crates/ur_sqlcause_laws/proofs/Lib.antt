@@ -1,0 +1,4 @@
+mod Lacking
+pub mod Expressions
+pub mod Queries
+pub mod Changes

@@ -1,0 +1,12 @@
+mod Distinct
+mod Queried
+mod Walked
+mod WalkedCalls
+mod WalkedCases
+mod WalkedFolds
+mod WalkedForms
+mod WalkedLiterals
+mod WalkedRecords
+mod WalkedStatements
+mod WalkedXml
+mod Whole
