@@ -29,7 +29,7 @@ use Rattle.ur_laid.specs.Laid.{text_at, table_tab, columns_of, kinds_at, rows_in
 use Rattle.ur_laid.proofs.Laws.{apart-from-tables, other-number}
 use Rattle.ur_kept.specs.Kept.{no_changes, AreRead, IsPending, IsNumber}
 use Rattle.ur_kept.specs.Attach.{IsSoundRows, IsSoundTable, IsSoundSequence, IsSoundStore, ones, IsFresh, IsTaken, Starts}
-use Rattle.ur_kept.proofs.Steps.{text-put}
+use Rattle.ur_kept.proofs.Steps.{text-put, none-drawn}
 
 -- ---- place by place
 
@@ -250,7 +250,7 @@ module _ (s : Schema) (m : BodyMap) (none : None ≡ text_at m) (rows : (i : ℕ
   started =
       let text = ones-text texted 0 n ∙ text-here in
       record {
-        pending = record { good = record { text = text; saved = laid-made; fits = tt; text_stays = text; current = laid-made }; seen = tt };
+        pending = record { good = record { text = text; saved = laid-made; fits = tt; text_stays = text; current = laid-made }; seen = tt; drawn = none-drawn made };
         tables = λ j. record {
           tables = map-range (table_in s made) [] s.tables 0 (λ i l u. ap (rows_in (kinds_at s i)) (no-bodies i (omega (arith, u)))) j;
           sequences = map-range (number_in made) (pos 1) s.sequences 0 (λ i l u. ap number_of_body (number-made i (omega (arith, u))) ∙ ap (λ o. unwrap_or o (pos 1)) (ap Some (int-read (pos 1) one-fits))) j;
@@ -306,7 +306,7 @@ table-told s (Some m) table place rows next shape e there read fits sound =
     (subst (λ (t : ℕ). IfSome (slice_get s.tables t) (λ (x : TableShape). AreRowsOf x rows)) e fits) sound
 
 taken : (s : Schema) (m : BodyMap) → text_at m ≡ Some (schema_text s) → IsSoundStore s m → IsTaken s m
-taken s m text h = record { pending = record { good = record { text = text; saved = h.laid; fits = tt; text_stays = text; current = h.laid }; seen = tt }; sound = h.sound }
+taken s m text h = record { pending = record { good = record { text = text; saved = h.laid; fits = tt; text_stays = text; current = h.laid }; seen = tt; drawn = none-drawn m }; sound = h.sound }
 
 pub taken-told : (s : Schema) (told : Option BodyMap) (kept : List ℕ) → kept ≡ schema_text s → WhereTold told (λ m. Some kept ≡ text_at m) → WhereTold told (IsSoundStore s) → WhereTold told (IsTaken s)
 taken-told s None kept e text h = tt

@@ -57,6 +57,13 @@ impl<B: Bodies + Drop> Kept<B> {
             reads: 0,
         }
     }
+
+    /// The bodies, without the changes of a transaction that is under way.
+    pub fn into_bodies(self) -> B
+        ensures { result ≡ self.bodies }
+    {
+        self.stock.bodies
+    }
 }
 
 /// The schema that is kept.

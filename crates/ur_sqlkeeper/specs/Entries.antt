@@ -8,11 +8,13 @@ use Rattle.sqlite.specs.Edit.{id_in}
 abbrev pub Entry : Type 0
 Entry = ℤ × List ℕ
 
+-- the number and the body in an answer's two columns
 abbrev pub entry_in : Row → Entry
-entry_in row = (id_in (column row 0), bytes (column row 1))
+entry_in r = (id_in (column r 0), bytes (column r 1))
 
+-- the body in an answer's one column
 abbrev pub body_in : Row → List ℕ
-body_in row = bytes (column row 0)
+body_in r = bytes (column r 0)
 
 -- each number is below this one
 abbrev pub is_below : ℤ → List Entry → Bool

@@ -19,7 +19,7 @@ abbrev pub stored : Kept → Row
 stored k = Int k.0 ∷ Int k.1.0.0 ∷ Int k.1.0.1 ∷ Blob k.1.1 ∷ []
 
 abbrev pub kept_in : Row → Kept
-kept_in row = (id_in (column row 0), ((id_in (column row 1), id_in (column row 2)), bytes (column row 3)))
+kept_in r = (id_in (column r 0), ((id_in (column r 1), id_in (column r 2)), bytes (column r 3)))
 
 abbrev pub bodies_kept : List Kept → List Body
 bodies_kept = map (λ k. k.1)
