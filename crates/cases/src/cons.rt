@@ -1,6 +1,6 @@
 //! Kinds, constructors and parameters, as text: a word and its parts in parentheses.
 use crate::names::{binder, field, literal, member, name};
-use crate::printer::Printer;
+use case_files::Printer;
 use ur_syntax::{CField, Con, ConForm, ConParam, Kind, Param, RecordField};
 
 #[cycle(kinds)]

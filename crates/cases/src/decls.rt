@@ -2,7 +2,7 @@
 use crate::cons::{con, con_param, kind, param};
 use crate::exps::exp;
 use crate::names::{name, names};
-use crate::printer::Printer;
+use case_files::Printer;
 use ur_base::{List, Text};
 use ur_syntax::{Constraint, Decl, DeclForm, FunDef, ValDecl, Variant};
 

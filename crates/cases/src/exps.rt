@@ -3,8 +3,8 @@ use crate::cons::{con, con_param, param};
 use crate::markup::parts;
 use crate::names::{binder, declared, field, member, name};
 use crate::pats::pat;
-use crate::printer::Printer;
 use crate::sql::{change, query};
+use case_files::Printer;
 use ur_syntax::{Binary, Branch, Exp, ExpForm, Field, LambdaParam, LetVal, QueryWord};
 
 fn sign(of: Binary) -> &'static [u8] {

@@ -1,6 +1,6 @@
 //! XML, as text. Code stands by its number.
 use crate::names::{literal, name};
-use crate::printer::Printer;
+use case_files::Printer;
 use ur_syntax::{Attr, AttrValue, Tag, TagField, XmlForm, XmlPart};
 
 #[cycle(markup)]

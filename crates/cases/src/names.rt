@@ -1,5 +1,5 @@
 //! Names, as text.
-use crate::printer::Printer;
+use case_files::Printer;
 use ur_base::Text;
 use ur_syntax::{Binder, DeclName, FieldName};
 

@@ -1,8 +1,8 @@
 //! What comes of a text, in the lines that a case wants.
-use crate::printer::Printer;
 use crate::projects::{put_place, step_outcome};
 use crate::reading::read;
 use crate::subject::{Part, Subject};
+use case_files::Printer;
 use std::alloc::Global;
 use ur_base::{Memory, Refusal, Stop, Text};
 
@@ -37,7 +37,7 @@ fn stopped(alloc: Global, subject: Subject, text: &str, stop: &Stop) -> Result<T
     match stop {
         Stop::Memory => p.put(b"memory"),
         Stop::Refused(refusal) => {
-            put_code(refusal.code, &mut p);
+            p.code(refusal.code);
             match subject {
                 Subject::Part(_) => put_bytes(text, refusal, &mut p),
                 Subject::Step(_) => put_place(text, refusal, &mut p),
@@ -45,14 +45,6 @@ fn stopped(alloc: Global, subject: Subject, text: &str, stop: &Stop) -> Result<T
         }
     }
     p.finish()
-}
-
-fn put_code(code: u8, p: &mut Printer) {
-    p.put(b"E");
-    if code < 10 {
-        p.put(b"0");
-    }
-    p.count(u64::from(code));
 }
 
 /// Puts the place in bytes from 0, and the text there. A refusal that stands in another file than the text's stands

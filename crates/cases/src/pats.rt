@@ -1,6 +1,6 @@
 //! Patterns, as text.
 use crate::names::{binder, member, name};
-use crate::printer::Printer;
+use case_files::Printer;
 use ur_syntax::{Argument, Pat, PatForm};
 
 pub fn pat(p: &mut Printer, of: &Pat) {

@@ -1,7 +1,7 @@
 //! Small projects, and what the steps of the compiler say of them.
-use crate::printer::Printer;
 use crate::reading::tokens_of;
 use crate::subject::Step;
+use case_files::Printer;
 use std::alloc::Global;
 use ur_base::{List, Refusal, Stop, Text};
 use ur_kinded::check_kinds;
@@ -97,14 +97,6 @@ pub fn put_place(text: &str, refusal: &Refusal, p: &mut Printer) {
         }
         None => p.word(b"nowhere"),
     }
-    said(refusal.left.as_slice(), p);
-    said(refusal.right.as_slice(), p);
-}
-
-/// Puts what a refusal says behind `|`, where it says something.
-fn said(bytes: &[u8], p: &mut Printer) {
-    if !bytes.is_empty() {
-        p.word(b"|");
-        p.word(bytes);
-    }
+    p.said(refusal.left.as_slice());
+    p.said(refusal.right.as_slice());
 }

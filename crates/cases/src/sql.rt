@@ -1,7 +1,7 @@
 //! SQL, as text. Code stands by its number.
 use crate::markup::shown;
 use crate::names::{declared, member, name, names};
-use crate::printer::Printer;
+use case_files::Printer;
 use ur_syntax::{
     Aggregate, Assignment, Direction, FromItem, Limit, OrderKey, Selected, Selection, SqlBinary,
     SqlChange, SqlExp, SqlForm, SqlQuery,

@@ -1,5 +1,5 @@
 //! Cases as they are written in a file: docs/CASES.md has their form.
-use crate::subject::Subject;
+use crate::runs::Subjects;
 use std::alloc::{AllocError, Global};
 
 /// A text, what it is to be read as, and what must come.
@@ -7,7 +7,8 @@ use std::alloc::{AllocError, Global};
 pub struct Case {
     /// the line at which it begins, from 1
     pub line: usize,
-    pub subject: Subject,
+    /// what the text is to be read as
+    pub subject: String,
     pub text: String,
     /// the lines of what must come, and nothing before the first of these is read
     pub wanted: String,
@@ -16,13 +17,16 @@ pub struct Case {
 }
 
 impl Case {
-    fn new(alloc: Global, line: usize, subject: Subject, text: &str) -> Result<Case, AllocError> {
+    fn new(alloc: Global, line: usize, subject: &str, text: &str) -> Result<Case, AllocError> {
+        let subject = String::from_str(alloc, subject)?;
+        let joins = text.is_empty();
+        let text = String::from_str(alloc, text)?;
         Ok(Case {
             line,
             subject,
-            text: String::from_str(alloc, text)?,
+            text,
             wanted: String::new(alloc),
-            joins: text.is_empty(),
+            joins,
         })
     }
 
@@ -77,7 +81,8 @@ pub struct Cases {
 }
 
 impl Cases {
-    pub fn read(alloc: Global, file: &str) -> Result<Cases, AllocError> {
+    /// The cases of a file with these subjects.
+    pub fn read<S: Subjects>(alloc: Global, subjects: &S, file: &str) -> Result<Cases, AllocError> {
         let mut all = Cases {
             cases: Vec::new(alloc),
             strays: Vec::new(alloc),
@@ -86,7 +91,7 @@ impl Cases {
         let mut number = 0usize;
         for line in file.lines() {
             number = number.saturating_add(1);
-            if !all.take(alloc, number, line)? {
+            if !all.take(alloc, subjects, number, line)? {
                 all.strays.push(number)?;
             }
         }
@@ -94,12 +99,18 @@ impl Cases {
     }
 
     /// Takes a line, or answers that it belongs to no case.
-    fn take(&mut self, alloc: Global, number: usize, line: &str) -> Result<bool, AllocError> {
+    fn take<S: Subjects>(
+        &mut self,
+        alloc: Global,
+        subjects: &S,
+        number: usize,
+        line: &str,
+    ) -> Result<bool, AllocError> {
         if line.is_empty() || line.starts_with('#') {
             return Ok(true);
         }
         if matches!(line.as_bytes().first(), Some(b'a'..=b'z')) {
-            return self.begin(alloc, number, line);
+            return self.begin(alloc, subjects, number, line);
         }
         if !self.is_open {
             return Ok(false);
@@ -111,17 +122,21 @@ impl Cases {
     }
 
     /// Takes the first line of a case.
-    fn begin(&mut self, alloc: Global, number: usize, line: &str) -> Result<bool, AllocError> {
+    fn begin<S: Subjects>(
+        &mut self,
+        alloc: Global,
+        subjects: &S,
+        number: usize,
+        line: &str,
+    ) -> Result<bool, AllocError> {
         let (word, text) = match line.split_once(' ') {
             Some((word, text)) => (word, text),
             None => (line, ""),
         };
-        match Subject::of_word(word) {
-            Some(subject) => {
-                self.cases.push(Case::new(alloc, number, subject, text)?)?;
-                self.is_open = true;
-            }
-            None => self.is_open = false,
+        self.is_open = subjects.has(word);
+        if self.is_open {
+            let case = Case::new(alloc, number, word, text)?;
+            self.cases.push(case)?;
         }
         Ok(self.is_open)
     }

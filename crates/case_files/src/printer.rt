@@ -59,6 +59,15 @@ impl Printer {
         }
     }
 
+    /// An int, as a word.
+    pub fn int(&mut self, of: i64) {
+        self.word(b"");
+        match format!(in self.alloc; "{of}") {
+            Ok(digits) => self.put(digits.as_bytes()),
+            Err(_) => self.lacks_memory = true,
+        }
+    }
+
     /// A text in quotes, with the escapes of the language.
     pub fn quoted(&mut self, of: &[u8]) {
         self.word(b"\"");
@@ -72,5 +81,22 @@ impl Printer {
             }
         }
         self.put(b"\"");
+    }
+
+    /// The code of a refusal, as `E07`.
+    pub fn code(&mut self, code: u8) {
+        self.put(b"E");
+        if code < 10 {
+            self.put(b"0");
+        }
+        self.count(u64::from(code));
+    }
+
+    /// What a refusal says, behind `|`, where it says something.
+    pub fn said(&mut self, bytes: &[u8]) {
+        if !bytes.is_empty() {
+            self.word(b"|");
+            self.word(bytes);
+        }
     }
 }
