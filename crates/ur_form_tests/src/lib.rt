@@ -6,6 +6,8 @@ mod calls;
 #[cfg(test)]
 mod heights;
 #[cfg(test)]
+mod kinds;
+#[cfg(test)]
 mod wide;
 #[cfg(test)]
 mod written;

@@ -1,23 +1,42 @@
 //! Trees of the greatest height.
-use crate::written::{repeated, scalar};
 use std::alloc::Global;
 use ur_base::{Boxed, Memory};
-use ur_sql::{SqlTerm, holds, value_of};
+use ur_sql::{Scalar, SqlTerm, holds, value_of};
 use ur_values::Value;
 
 const HEIGHT: u32 = 4096;
 
 /// TRUE under an odd number of NOT.
+fn nots(alloc: Global) -> Result<Scalar, Memory> {
+    let mut all = Scalar::Constant(Value::Bool(true));
+    for _ in 1..HEIGHT {
+        all = Scalar::Not(Boxed::new(alloc, all)?);
+    }
+    Ok(all)
+}
+
 fn is_false(alloc: Global) -> Result<bool, Memory> {
-    let text = repeated(alloc, b'T', b"!", HEIGHT - 1)?;
-    let condition = scalar(alloc, &text)?;
+    let condition = nots(alloc)?;
     Ok(!holds(&[], &[], &condition))
 }
 
+fn one_more(alloc: Global, all: Scalar) -> Result<Scalar, Memory> {
+    let all = Boxed::new(alloc, all)?;
+    let one = Boxed::new(alloc, Scalar::Constant(Value::Int(1)))?;
+    Ok(Scalar::Add(all, one))
+}
+
 /// As many ones as the greatest height.
+fn ones(alloc: Global) -> Result<Scalar, Memory> {
+    let mut all = Scalar::Constant(Value::Int(1));
+    for _ in 1..HEIGHT {
+        all = one_more(alloc, all)?;
+    }
+    Ok(all)
+}
+
 fn is_sum(alloc: Global) -> Result<bool, Memory> {
-    let text = repeated(alloc, b'1', b"1+", HEIGHT - 1)?;
-    let sum = scalar(alloc, &text)?;
+    let sum = ones(alloc)?;
     let value = value_of(alloc, &[], &[], &sum)?;
     Ok(value.same(&Value::Int(4096)))
 }

@@ -1,19 +1,13 @@
-//! Tests of queries and changes, and which fit their tables.
+//! Tests of statements that no text spells: trees of the greatest height, statements that do not fit, full tables; closures, and masks of patterns.
 #![tactic(auto)]
 
 #[cfg(test)]
-mod answers;
-#[cfg(test)]
-mod changes;
+mod closures;
 #[cfg(test)]
 mod fits;
 #[cfg(test)]
 mod heights;
 #[cfg(test)]
-mod plans;
-#[cfg(test)]
-mod scalars;
+mod masks;
 #[cfg(test)]
 mod tables;
-#[cfg(test)]
-mod written;

@@ -1,115 +1,69 @@
-//! Tables and what comes of them, as short texts.
+//! Changes of tables that are full.
 use std::alloc::Global;
-use ur_base::{List, Memory, Text};
-use ur_sql::{Planned, RowChange};
-use ur_values::{ColumnKind, Numbered, Row, Schema, TableShape, Value};
+use ur_base::{List, Memory};
+use ur_sql::{Action, Planned, Scalar, plan_action};
+use ur_values::{Numbered, Value};
 
-/// A digit is its int, and `M` the greatest one.
-fn cell(byte: u8) -> Value {
-    match byte {
-        b'0'..=b'9' => Value::Int(i64::from(byte - b'0')),
-        _ => Value::Int(i64::MAX),
-    }
-}
-
-fn row(alloc: Global, cells: &[u8]) -> Result<Row, Memory> {
-    let mut row = List::new(alloc);
-    for byte in cells {
-        row.push(cell(*byte))?;
-    }
-    Ok(row)
-}
-
-/// A table of two columns.
-pub fn table(alloc: Global, cells: &[u8]) -> Result<List<Numbered>, Memory> {
+/// So many rows without columns.
+fn empty_rows(alloc: Global, count: u64) -> Result<List<Numbered>, Memory> {
     let mut rows = List::new(alloc);
-    for pair in cells.chunks(2) {
-        let row = row(alloc, pair)?;
-        let number = rows.len() as u64;
+    for number in 0..count {
+        let row = List::new(alloc);
         rows.push(Numbered { number, row })?;
     }
     Ok(rows)
 }
 
-pub fn digit(number: u64) -> u8 {
-    match number {
-        0..=9 => b'0' + number as u8,
-        _ => b'?',
+/// No key, or the empty one.
+fn empty_keys(alloc: Global, count: u32) -> Result<List<List<u32>>, Memory> {
+    let mut keys = List::new(alloc);
+    for _ in 0..count {
+        keys.push(List::new(alloc))?;
+    }
+    Ok(keys)
+}
+
+/// `+` for changes, `K` for a key that would repeat, and `F` for a table that is full.
+fn letter(planned: &Planned) -> u8 {
+    match planned {
+        Planned::Changes(_) => b'+',
+        Planned::DuplicateKey(_) => b'K',
+        Planned::TableFull => b'F',
     }
 }
 
-fn int(value: &Value) -> u8 {
-    match value {
-        Value::Int(n) => digit(n.unsigned_abs()),
-        _ => b'?',
-    }
+/// What the action comes to on so many rows without columns, with so many empty keys.
+fn comes_to(alloc: Global, action: &Action, rows: u64, keys: u32) -> Result<u8, Memory> {
+    let rows = empty_rows(alloc, rows)?;
+    let keys = empty_keys(alloc, keys)?;
+    let planned = plan_action(alloc, action, &[], &rows, &keys)?;
+    Ok(letter(&planned))
 }
 
-fn push_row(out: &mut Text, row: &Row) -> Result<(), Memory> {
-    for value in row.as_slice() {
-        out.push(int(value))?;
-    }
+/// What the insertion of a row without columns comes to.
+fn inserts(alloc: Global, rows: u64, keys: u32) -> Result<u8, Memory> {
+    let insert = Action::Insert(List::new(alloc));
+    comes_to(alloc, &insert, rows, keys)
+}
+
+/// A row without columns repeats an empty key, which comes before the number of rows.
+#[test]
+fn a_full_table_takes_no_row(rt: HostRuntime) -> Result<(), Memory> {
+    let alloc = rt.alloc();
+    assert!(rt; inserts(alloc, 999_999, 0)? == b'+');
+    assert!(rt; inserts(alloc, 1_000_000, 0)? == b'F');
+    assert!(rt; inserts(alloc, 1_000_000, 1)? == b'K');
     Ok(())
 }
 
-fn push_change(out: &mut Text, change: &RowChange) -> Result<(), Memory> {
-    match change {
-        RowChange::Add(row) => {
-            out.push(b'+')?;
-            push_row(out, row)
-        }
-        RowChange::Put(number, row) => {
-            out.push(b'=')?;
-            out.push(digit(*number))?;
-            push_row(out, row)
-        }
-        RowChange::Drop(number) => {
-            out.push(b'-')?;
-            out.push(digit(*number))
-        }
-    }
+/// What the deletion of no row comes to.
+fn deletes_nothing(alloc: Global, rows: u64) -> Result<u8, Memory> {
+    let nothing = Action::Delete(Some(Scalar::Constant(Value::Bool(false))));
+    comes_to(alloc, &nothing, rows, 0)
 }
 
-fn changes_text(alloc: Global, changes: &[RowChange]) -> Result<Text, Memory> {
-    let mut out = List::new(alloc);
-    for change in changes {
-        push_change(&mut out, change)?;
-    }
-    Ok(out)
-}
-
-/// `+` and a new row, `=` and the number of a row and what it becomes, `-` and the number of a row that goes; or `K` and the
-/// first key that would repeat, or `full`.
-pub fn planned_text(alloc: Global, planned: &Planned) -> Result<Text, Memory> {
-    match planned {
-        Planned::Changes(changes) => changes_text(alloc, changes.as_slice()),
-        Planned::DuplicateKey(key) => List::from_slice(alloc, &[b'K', digit(u64::from(*key))]),
-        Planned::TableFull => List::from_slice(alloc, b"full"),
-    }
-}
-
-fn shape(alloc: Global, kinds: &[ColumnKind]) -> Result<TableShape, Memory> {
-    let mut columns = List::new(alloc);
-    for kind in kinds {
-        let name = List::from_slice(alloc, b"A")?;
-        columns.push((name, *kind))?;
-    }
-    let name = List::from_slice(alloc, b"t")?;
-    Ok(TableShape {
-        name,
-        columns,
-        keys: List::new(alloc),
-        primary: false,
-    })
-}
-
-/// One table with columns of these kinds.
-pub fn schema(alloc: Global, kinds: &[ColumnKind]) -> Result<Schema, Memory> {
-    let shape = shape(alloc, kinds)?;
-    let mut tables = List::new(alloc);
-    tables.push(shape)?;
-    Ok(Schema {
-        tables,
-        sequences: List::new(alloc),
-    })
+#[test]
+fn a_full_table_is_changed(rt: HostRuntime) -> Result<(), Memory> {
+    assert!(rt; deletes_nothing(rt.alloc(), 1_000_000)? == b'+');
+    Ok(())
 }

@@ -1,0 +1,281 @@
+//! What comes of statements: their types, answers, changes and patterns.
+ghost use Rattle.std.specs.Prelude.{◌≡◌, ◌∷◌, [], All, IfOk, IsTrue};
+ghost use Rattle.ur_sql.specs.Typing.{QueryFits, ChangeFits};
+
+use crate::reading::{change_of, query_of};
+use crate::scope::module;
+use crate::tables::World;
+use crate::values::{put_planned, put_rows};
+use case_files::Printer;
+use std::alloc::Global;
+use ur_base::{List, Memory, Stop};
+use ur_fits::{change_fits, query_fits};
+use ur_invalidate::patterns;
+use ur_patterns::Patterns;
+use ur_rows::Normal;
+use ur_sites::sites_text;
+use ur_sql::{Action, Change, Query, Scalar, answer, plan_action};
+use ur_sqlchange::{TypedChange, type_change};
+use ur_sqlquery::{TypedQuery, type_query};
+use ur_type_words::row_text;
+use ur_values::Schema;
+
+/// The types of the antiquotes of a statement, by its number.
+fn found(world: &World, number: usize) -> &[Normal] {
+    match world.found.get(number) {
+        Some(found) => found.as_slice(),
+        None => &[],
+    }
+}
+
+fn typed_query(alloc: Global, world: &World, text: &str) -> Result<TypedQuery, Stop> {
+    let env = module(alloc)?;
+    let query = query_of(alloc, text)?;
+    type_query(alloc, &env, &world.schema, &query, found(world, 0), &[])
+}
+
+fn typed_change(
+    alloc: Global,
+    world: &World,
+    number: usize,
+    text: &str,
+) -> Result<TypedChange, Stop> {
+    let env = module(alloc)?;
+    let change = change_of(alloc, text)?;
+    type_change(
+        alloc,
+        &env,
+        &world.schema,
+        &change,
+        found(world, number),
+        &[],
+    )
+}
+
+// ---- types
+
+fn put_words(p: &mut Printer, word: &[u8], count: usize) {
+    for _ in 0..count {
+        p.word(word);
+    }
+}
+
+/// The row of a query's answer, and a word for each condition of a join, GROUP BY column, ORDER BY key and bound.
+fn put_query(alloc: Global, typed: &TypedQuery, p: &mut Printer) -> Result<(), Memory> {
+    let row = row_text(alloc, &[], typed.row.as_slice())?;
+    p.put(b"=");
+    p.word(row.as_slice());
+    put_words(p, b"on", typed.core.on.len());
+    put_words(p, b"group", typed.core.group.len());
+    put_words(p, b"order", typed.core.order.len());
+    put_words(p, b"limit", usize::from(typed.core.limit.is_some()));
+    put_words(p, b"offset", usize::from(typed.core.offset.is_some()));
+    Ok(())
+}
+
+fn put_sets(p: &mut Printer, word: &[u8], sets: &[(u32, Scalar)]) {
+    p.word(word);
+    for set in sets {
+        p.number(u64::from(set.0));
+    }
+}
+
+/// What a change does, with the columns that it sets, by their numbers.
+fn put_typed_change(typed: &TypedChange, p: &mut Printer) {
+    p.put(b"=");
+    match &typed.core.action {
+        Action::Insert(sets) => put_sets(p, b"insert", sets.as_slice()),
+        Action::Update(sets, _) => put_sets(p, b"update", sets.as_slice()),
+        Action::Delete(_) => p.word(b"delete"),
+    }
+}
+
+fn put_typed(alloc: Global, world: &World, text: &str, p: &mut Printer) -> Result<(), Stop> {
+    if text.starts_with("SELECT") {
+        let typed = typed_query(alloc, world, text)?;
+        return Ok(put_query(alloc, &typed, p)?);
+    }
+    let typed = typed_change(alloc, world, 0, text)?;
+    put_typed_change(&typed, p);
+    Ok(())
+}
+
+/// The typing of a query or a change.
+pub fn typed(alloc: Global, text: &str, p: &mut Printer) -> Result<(), Stop> {
+    let mut world = World::new(alloc);
+    let (_, statement) = world.read(text)?;
+    put_typed(alloc, &world, statement, p)
+}
+
+// ---- rows
+
+fn put_answer(alloc: Global, world: &World, query: &Query, p: &mut Printer) -> Result<(), Memory> {
+    let rows = answer(alloc, query, world.args.as_slice(), world.rows.as_slice())?;
+    put_rows(p, rows.as_slice());
+    Ok(())
+}
+
+fn put_answers(alloc: Global, world: &World, text: &str, p: &mut Printer) -> Result<(), Stop> {
+    let typed = typed_query(alloc, world, text)?;
+    Ok(put_answer(alloc, world, &typed.core, p)?)
+}
+
+/// The rows that a query answers.
+pub fn answers(alloc: Global, text: &str, p: &mut Printer) -> Result<(), Stop> {
+    let mut world = World::new(alloc);
+    let (_, statement) = world.read(text)?;
+    put_answers(alloc, &world, statement, p)
+}
+
+fn put_change(
+    alloc: Global,
+    world: &World,
+    change: &Change,
+    p: &mut Printer,
+) -> Result<(), Memory> {
+    if let Some(rows) = world.rows.get(0) {
+        let planned = plan_action(
+            alloc,
+            &change.action,
+            world.args.as_slice(),
+            rows,
+            &world.keys,
+        )?;
+        put_planned(p, &planned);
+    }
+    Ok(())
+}
+
+fn put_changes(alloc: Global, world: &World, text: &str, p: &mut Printer) -> Result<(), Stop> {
+    let typed = typed_change(alloc, world, 0, text)?;
+    Ok(put_change(alloc, world, &typed.core, p)?)
+}
+
+/// What a change does to the rows of the one table.
+pub fn changes(alloc: Global, text: &str, p: &mut Printer) -> Result<(), Stop> {
+    let mut world = World::new(alloc);
+    let (_, statement) = world.read(text)?;
+    put_changes(alloc, &world, statement, p)
+}
+
+// ---- patterns
+
+/// Lines, with ` /` between them.
+fn put_lines(p: &mut Printer, text: &[u8]) {
+    p.put(b"= ");
+    for byte in text {
+        match byte {
+            b'\n' => p.put(b" / "),
+            other => p.put(&[*other]),
+        }
+    }
+}
+
+/// A text without the end of its last line.
+fn lines(text: &[u8]) -> &[u8] {
+    match text {
+        [front @ .., b'\n'] => front,
+        all => all,
+    }
+}
+
+fn put_found(
+    alloc: Global,
+    queries: &List<Query>,
+    changes: &List<Change>,
+    found: &Patterns,
+    p: &mut Printer,
+) -> Result<(), Memory> {
+    let text = sites_text(alloc, queries, changes, found)?;
+    put_lines(p, lines(text.as_slice()));
+    Ok(())
+}
+
+fn put_patterns(
+    alloc: Global,
+    schema: &Schema,
+    queries: &List<Query>,
+    changes: &List<Change>,
+    p: &mut Printer,
+) -> Result<(), Memory>
+    requires queries { All (QueryFits schema.now) queries.now }
+    requires changes { All (ChangeFits schema.now) changes.now }
+{
+    let found = patterns(alloc, queries, changes)?;
+    put_found(alloc, queries, changes, &found, p)
+}
+
+fn one_query(alloc: Global, query: Query) -> Result<List<Query>, Memory>
+    ensures { IfOk result (λ queries. queries ≡ query ∷ []) }
+{
+    let mut queries = List::new(alloc);
+    queries.push(query)?;
+    Ok(queries)
+}
+
+fn one_change(alloc: Global, change: Change) -> Result<List<Change>, Memory>
+    ensures { IfOk result (λ changes. changes ≡ change ∷ []) }
+{
+    let mut changes = List::new(alloc);
+    changes.push(change)?;
+    Ok(changes)
+}
+
+fn put_fit(
+    alloc: Global,
+    schema: &Schema,
+    query: Query,
+    change: Change,
+    p: &mut Printer,
+) -> Result<(), Memory>
+    requires query { QueryFits schema.now query }
+    requires change { ChangeFits schema.now change }
+{
+    let queries = one_query(alloc, query)?;
+    let changes = one_change(alloc, change)?;
+    put_patterns(alloc, schema, &queries, &changes, p)
+}
+
+fn are_fit(alloc: Global, schema: &Schema, query: &Query, change: &Change) -> Result<bool, Memory>
+    ensures query { IfOk result (λ fit. IsTrue fit → QueryFits schema.now query.now) }
+    ensures change { IfOk result (λ fit. IsTrue fit → ChangeFits schema.now change.now) }
+{
+    if !query_fits(alloc, schema, query)? {
+        return Ok(false);
+    }
+    let fits = change_fits(alloc, schema, change)?;
+    Ok(fits)
+}
+
+/// The keys of the one query that the one change drops, where both fit the tables.
+fn put_typed_sites(
+    alloc: Global,
+    schema: &Schema,
+    query: Query,
+    change: Change,
+    p: &mut Printer,
+) -> Result<(), Memory> {
+    if !are_fit(alloc, schema, &query, &change)? {
+        return Ok(());
+    }
+    put_fit(alloc, schema, query, change, p)
+}
+
+fn put_sites(
+    alloc: Global,
+    world: &World,
+    query: &str,
+    change: &str,
+    p: &mut Printer,
+) -> Result<(), Stop> {
+    let query = typed_query(alloc, world, query)?.core;
+    let change = typed_change(alloc, world, 1, change)?.core;
+    Ok(put_typed_sites(alloc, &world.schema, query, change, p)?)
+}
+
+/// The keys of a query that a change drops.
+pub fn sites(alloc: Global, text: &str, p: &mut Printer) -> Result<(), Stop> {
+    let mut world = World::new(alloc);
+    let (query, change) = world.read(text)?;
+    put_sites(alloc, &world, query, change, p)
+}

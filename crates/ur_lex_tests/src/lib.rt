@@ -1,5 +1,0 @@
-//! Tests of tokens.
-#![tactic(auto)]
-
-#[cfg(test)]
-mod texts;
