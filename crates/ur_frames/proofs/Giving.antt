@@ -20,7 +20,7 @@ use Rattle.ur_frames.specs.declared.control.Next.TheVariants as next
 use Rattle.ur_frames.specs.Rest.{standing, outer, resume, state_of, leaves_or, goes_on, frame_goes_on}
 use Rattle.ur_frames.specs.Work.{term_cost, total, going_cost, frame_cost, frames_cost}
 use Rattle.ur_frames.specs.Plays.{Plays, until, no_store}
-use Rattle.ur_frames.specs.Steps.{Doing, Costs, Leads, Steps, IsSafe, IsLess, going, going_costs, resuming, resuming_cost, giving, entering, entering_cost, left, work, comes_to, next_work}
+use Rattle.ur_frames.specs.Steps.{Doing, Costs, Leads, Steps, IsSafe, IsLess, IsAbove, below, going, going_costs, resuming, resuming_cost, giving, entering, entering_cost, left, work, comes_to, next_work}
 use Rattle.ur_frames.proofs.Leading.{IsTail, not_stuck, same_safe, transfers}
 
 module _ (fs : List Function) where
@@ -83,6 +83,7 @@ module _ (fs : List Function) where
         (as_much _ _ (taken_cost d m.frames m₁.frames m.values m₁.values f x (state_of m store events) e outside
         ∙ ap (λ s. suc (total d fs m₁.frames m₁.values (frame_cost d fs f (standing fs m₁.frames) m₁.values x s) (frame_goes_on d (outcome_of d fs) f (standing fs m₁.frames) m₁.values x s))) (sym (states store events))));
     stands = l.stands;
+    above = subst (λ fr. IsAbove fr m'.frames r) (sym (ap below e)) l.above;
   }
     where
       as_much : (x y : ℕ) → x ≡ y → y ≤ 0 + x
@@ -99,6 +100,7 @@ module _ (fs : List Function) where
         (taken_cost d m.frames m₁.frames m.values m₁.values f x (state_of m store events) e outside)
         (ap (λ o. after_cost o (frames_cost d fs m₁.frames m₁.values)) (tail.0 _ x (state_of m store events)) ∙ ap (frames_cost d fs m₁.frames m₁.values x) (sym (states store events)));
     stands = tt;
+    above = sym (ap below e);
   }
     where
       smaller : (a b c k : ℕ) → a ≡ suc (k + b) → b ≡ c → 0 + c < 0 + a
@@ -110,6 +112,7 @@ module _ (fs : List Function) where
     same = λ d p store events. ap (λ fr. resume d fs fr m.values (Done x (state_of m store events))) e ∙ ap (Done x) (sym (states store events));
     less = λ d p store events. tt;
     stands = tt;
+    above = tt;
   }
 
   -- ---- whole steps
@@ -134,6 +137,7 @@ module _ (fs : List Function) where
     same = l.same;
     less = λ d p store events. on_less d m' r store events _ _ (l.less d p store events) (back _ _ (one_at_least d a.now m.values (state_of m store events)));
     stands = l.stands;
+    above = l.above;
   }
     where
       back : (c k : ℕ) → 1 ≤ c → suc ((c - 1) + k) ≤ c + k

@@ -64,6 +64,7 @@ module _ (fs : List Function) where
     less = λ d p store events. at_most _ _ _ (ap (λ o. after_cost o (frames_cost d fs m.frames m.values)) (h d p store events)
         ∙ cost_same d m.frames m'.frames m.values m'.values x (state_of m' store events) e e');
     stands = tt;
+    above = e;
   }
 
   pub fails : (m m' : Machine) (w : Doing) (n : Costs) (body : Value)
@@ -73,6 +74,7 @@ module _ (fs : List Function) where
     same = λ d p store events. ap (resume d fs m.frames m.values) (h d p store events) ∙ stays_error d m.frames m.values events;
     less = λ d p store events. none_left _ _;
     stands = tt;
+    above = tt;
   }
     where
       stays_error : (d : Does) (frames : List Frame) (env : List Value) (events : List Event) → resume d fs frames env (Error body events) ≡ Error body events
@@ -86,6 +88,7 @@ module _ (fs : List Function) where
     same = λ d p store events. ap (resume d fs m.frames m.values) (h d p store events) ∙ stays_spent d m.frames m.values events;
     less = λ d p store events. none_left _ _;
     stands = tt;
+    above = tt;
   }
     where
       stays_spent : (d : Does) (frames : List Frame) (env : List Value) (events : List Event) → resume d fs frames env (Spent events) ≡ Spent events
@@ -93,7 +96,7 @@ module _ (fs : List Function) where
       stays_spent d (f ∷ frames) env events = stays_spent d frames (outer f env) events
 
   pub wants_memory : (m m' : Machine) (w : Doing) (n : Costs) → Leads fs m w n m' (next.Off pause.Memory)
-  wants_memory m m' w n = record { same = λ d p store events. refl; less = λ d p store events. none_left _ _; stands = tt }
+  wants_memory m m' w n = record { same = λ d p store events. refl; less = λ d p store events. none_left _ _; stands = tt; above = tt }
 
   -- the run is done
   pub finishes : (m m' : Machine) (w : Doing) (n : Costs) (x : Value) → m.frames ≡ []
@@ -103,6 +106,7 @@ module _ (fs : List Function) where
     same = λ d p store events. ap (λ f. resume d fs f m.values (w d m.values (state_of m store events))) e ∙ h d p store events;
     less = λ d p store events. none_left _ _;
     stands = tt;
+    above = tt;
   }
 
   enter_same : (d : Does) (frames frames' : List Frame) (env env' : List Value) (f : Frame) (o : Outcome Value) → frames' ≡ f ∷ frames → outer f env' ≡ env
@@ -138,6 +142,7 @@ module _ (fs : List Function) where
         < suc (total d fs m.frames m.values (n d m.values (state_of m store events)) o)) (sym (h d p store events))
         (enter_less d m.frames m'.frames m.values m'.values f _ _ _ e outside (k d p store events));
     stands = ap (standing fs) e ∙ stands;
+    above = (f, e);
   }
 
   -- the same outcome, at a cost that is no less
@@ -151,6 +156,7 @@ module _ (fs : List Function) where
         subst (λ o. next_work d fs m' r store events < suc (total d fs m.frames m.values (n d m.values (state_of m store events)) o)) (sym (e d p (state_of m store events)))
         (more _ _ _ _ (le d p (state_of m store events)) (l.less d p store events));
     stands = l.stands;
+    above = l.above;
   }
     where
       more : (a k n b : ℕ) → k ≤ n → a < suc (k + b) → a < suc (n + b)

@@ -6,9 +6,12 @@ pub mod Descending
 pub mod Views
 pub mod Entering
 pub mod Giving
+pub mod Placing
 pub mod Playing
 pub mod Starting
 pub mod Pure
 pub mod Blind
 pub mod Resuming
 pub mod Agreeing
+pub mod Moving
+pub mod Ending

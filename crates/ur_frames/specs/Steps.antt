@@ -73,6 +73,22 @@ abbrev pub NextStands : List Function → Machine → Next → Type 0
 NextStands fs m (next.On c) = Stands fs m c
 NextStands fs m (next.Off p) = IsDeed p
 
+-- the frames below the nearest
+abbrev pub below : List Frame → List Frame
+below [] = []
+below (f ∷ frames) = frames
+
+-- the frames that are left when a step begins: one to which a value is given is not
+abbrev pub remaining : Control → List Frame → List Frame
+remaining (control.Enter a) frames = frames
+remaining (control.Give x) frames = below frames
+
+-- a run that goes on stands under the same frames, or in a part under one more
+abbrev pub IsAbove : List Frame → List Frame → Next → Type 0
+IsAbove frames frames' (next.On (control.Enter a)) = (f : Frame) × (frames' ≡ f ∷ frames)
+IsAbove frames frames' (next.On (control.Give x)) = frames' ≡ frames
+IsAbove frames frames' (next.Off p) = Unit {0}
+
 -- An outcome that costs so much, under the frames of a machine.
 abbrev pub Doing : Type 0
 Doing = Does → List Value → State → Outcome Value
@@ -88,6 +104,7 @@ pub record Leads (fs : List Function) (m : Machine) (w : Doing) (n : Costs) (m' 
   pub less : (d : Does) → Plays d → (store : Store) (events : List Event)
       → next_work d fs m' result store events < suc (total d fs m.frames m.values (n d m.values (state_of m store events)) (w d m.values (state_of m store events)))
   pub stands : NextStands fs m' result
+  pub above : IsAbove m.frames m'.frames result
 
 -- The run does not get stuck before its next operation on tables.
 abbrev pub IsSafe : List Function → Machine → Doing → Type 0
@@ -165,6 +182,7 @@ pub record Steps (fs : List Function) (m : Machine) (c : Control) (m' : Machine)
       → left d fs m c store events ≡ comes_to d fs m' result (left d fs m c store events) store events
   pub less : (d : Does) → Plays d → (store : Store) (events : List Event) → IsLess d fs m' result store events (work d fs m c store events)
   pub stands : NextStands fs m' result
+  pub above : IsAbove (remaining c m.frames) m'.frames result
 
 -- a part is entered under a new frame, or memory was wanting
 abbrev pub Descends : Frame → Term → Machine → Machine → Next → Type 0

@@ -5,6 +5,8 @@ mod control;
 mod frame;
 mod law;
 mod operations;
+mod over;
+mod places;
 mod run;
 mod stack;
 mod steps;

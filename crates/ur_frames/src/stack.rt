@@ -1,9 +1,10 @@
 //! A stack, which contracts see as the list of its items, the nearest first.
-ghost use Rattle.std.specs.Prelude.{◌≡◌, ◌≤◌, [], ◌∷◌, ◌++◌, length, drop, reverse, slice_get, MatchOption, OnOk, OnErr};
+ghost use Rattle.std.specs.Prelude.{◌≡◌, ◌≤◌, [], ◌∷◌, ◌++◌, length, drop, reverse, slice_get, slice_set, Some, ◌<◌, MatchOption, OnOk, OnErr};
 ghost use Rattle.std.specs.Option.{option_copied};
 
 use std::alloc::Global;
 use std::marker::Model;
+use std::mem;
 use ur_base::{List, Memory};
 
 /// A stack on a vector, its nearest item last there.
@@ -58,6 +59,18 @@ impl<T> Stack<T> {
     }
 }
 
+impl<T> Stack<T> {
+    /// Puts another item at a place, counted from the nearest, and gives the one that stood there.
+    pub fn replace(&mut self, place: usize, item: T) -> T
+        requires { place < length self.old }
+        ensures item { slice_get self.old place ≡ Some result }
+        ensures others { self.new ≡ slice_set self.old place item }
+    {
+        let index = self.items.len() - 1 - place;
+        mem::replace(&mut self.items[index], item)
+    }
+}
+
 impl<T: Drop> Stack<T> {
     pub fn push(&mut self, item: T) -> Result<(), Memory>
         ensures ok { OnOk result (self.new ≡ item ∷ self.old) }
@@ -75,6 +88,13 @@ impl<T: Drop> Stack<T> {
             self.push(item)?;
         }
         Ok(())
+    }
+
+    /// Lets all items go.
+    pub fn clear(&mut self)
+        ensures { self.new ≡ [] }
+    {
+        self.items.clear();
     }
 
     /// Lets the nearest `count` items go.

@@ -6,11 +6,14 @@ ghost use Rattle.ur_frames.specs.declared.frame.Frame.TheVariants as frame;
 ghost use Rattle.ur_frames.specs.declared.control.Control.TheVariants as control;
 ghost use Rattle.std.specs.Option.{option_copied};
 ghost use Rattle.ur_frames.specs.Rest.{standing};
-ghost use Rattle.ur_frames.specs.Steps.{Leads, Steps, Ends, IsDeed, Stands, IsSafe, Descends, entering, entering_cost, with_args, with_args_cost, applying, applying_cost, performing, no_cost, calling, calling_cost, binding, binding_cost, going, going_costs, with_items, with_items_cost, resuming, resuming_cost, giving, beginning};
+ghost use Rattle.ur_frames.specs.Steps.{Leads, Steps, Ends, IsDeed, Stands, IsSafe, Descends, entering, entering_cost, with_args, with_args_cost, applying, applying_cost, performing, no_cost, calling, calling_cost, binding, binding_cost, going, going_costs, with_items, with_items_cost, resuming, resuming_cost, giving, beginning, below};
+ghost use Rattle.ur_frames.specs.Places.{AreLed, IfOn};
 
 use crate::control::{Control, Found, Next, Pause, Performed};
 use crate::frame::{Frame, Machine};
 use crate::operations::Operations;
+use crate::over::{is_over, weight};
+use crate::places::Places;
 use crate::stack::Stack;
 use crate::walk::{argument, find_branch, standing_at};
 use std::alloc::Global;
@@ -271,27 +274,60 @@ impl Machine {
         }
     }
 
+    /// Gives the value of a variable: the value itself where nothing reads it any more, and otherwise a copy.
+    fn read<'a, O: Operations>(
+        &mut self,
+        operations: &O,
+        functions: &'a List<Function>,
+        places: &Places<'a>,
+        place: &'a Term,
+        number: usize,
+    ) -> Next<'a>
+        requires variable { place.now ≡ term.Variable number }
+        requires led { AreLed functions.now self.old.frames places.now.known }
+        requires safe { IsSafe functions.now self.old (entering functions.now place.now) }
+        ensures leads { Leads functions.now self.old (entering functions.now place.now) (entering_cost functions.now place.now) self.new result }
+        ensures units { self.new.units ≤ self.old.units }
+    {
+        match self.values.get(number) {
+            None => unreachable!(),
+            Some(value) => {
+                let mut looks = weight(value);
+                if is_over(
+                    self.frames.as_slice(),
+                    places.known.as_slice(),
+                    number,
+                    &mut looks,
+                ) {
+                    return Next::On(Control::Give(self.values.replace(number, Value::Absent)));
+                }
+                match operations.copy(value) {
+                    Ok(copy) => Next::On(Control::Give(copy)),
+                    Err(_) => Next::Off(Pause::Memory),
+                }
+            }
+        }
+    }
+
     /// Enters a term to which the frames lead.
     fn enter<'a, O: Operations>(
         &mut self,
         alloc: Global,
         operations: &O,
         functions: &'a List<Function>,
+        places: &Places<'a>,
         place: &'a Term,
     ) -> Next<'a>
         requires stands { standing functions.now self.old.frames ≡ Some place.now }
+        requires led { AreLed functions.now self.old.frames places.now.known }
         requires safe { IsSafe functions.now self.old (entering functions.now place.now) }
         ensures leads { Leads functions.now self.old (entering functions.now place.now) (entering_cost functions.now place.now) self.new result }
         ensures units { self.new.units ≤ self.old.units }
     {
         match place {
-            Term::Variable(number) => match self.values.get(*number as usize) {
-                None => unreachable!(),
-                Some(value) => match operations.copy(value) {
-                    Ok(copy) => Next::On(Control::Give(copy)),
-                    Err(_) => Next::Off(Pause::Memory),
-                },
-            },
+            Term::Variable(number) => {
+                self.read(operations, functions, places, place, *number as usize)
+            }
             Term::Int(number) => Next::On(Control::Give(Value::Int(*number))),
             Term::Str(text) => match operations.copy_text(text) {
                 Ok(copy) => Next::On(Control::Give(Value::Str(copy))),
@@ -338,14 +374,16 @@ impl Machine {
         alloc: Global,
         operations: &O,
         functions: &'a List<Function>,
+        place: Option<&'a Term>,
         done: List<Value>,
         value: Value,
     ) -> Next<'a>
-        requires { IsSafe functions.now self.old (resuming functions.now self.old.frames (frame.Args done) value) }
+        requires stands { option_copied place ≡ standing functions.now self.old.frames }
+        requires safe { IsSafe functions.now self.old (resuming functions.now self.old.frames (frame.Args done) value) }
         ensures leads { Leads functions.now self.old (resuming functions.now self.old.frames (frame.Args done) value) (resuming_cost functions.now self.old.frames (frame.Args done) value) self.new result }
         ensures units { self.new.units ≤ self.old.units }
     {
-        match self.here(functions) {
+        match place {
             None => unreachable!(),
             Some(place) => {
                 let mut done = done;
@@ -358,12 +396,18 @@ impl Machine {
     }
 
     /// Goes on with a condition.
-    fn go_on_choice<'a>(&mut self, functions: &'a List<Function>, value: Value) -> Next<'a>
-        requires { IsSafe functions.now self.old (resuming functions.now self.old.frames frame.Condition value) }
+    fn go_on_choice<'a>(
+        &mut self,
+        functions: &'a List<Function>,
+        place: Option<&'a Term>,
+        value: Value,
+    ) -> Next<'a>
+        requires stands { option_copied place ≡ standing functions.now self.old.frames }
+        requires safe { IsSafe functions.now self.old (resuming functions.now self.old.frames frame.Condition value) }
         ensures leads { Leads functions.now self.old (resuming functions.now self.old.frames frame.Condition value) (resuming_cost functions.now self.old.frames frame.Condition value) self.new result }
         ensures units { self.new.units ≤ self.old.units }
     {
-        match self.here(functions) {
+        match place {
             None => unreachable!(),
             Some(place) => self.choose(functions, place, value),
         }
@@ -374,13 +418,15 @@ impl Machine {
         &mut self,
         operations: &O,
         functions: &'a List<Function>,
+        place: Option<&'a Term>,
         value: Value,
     ) -> Next<'a>
-        requires { IsSafe functions.now self.old (resuming functions.now self.old.frames frame.Subject value) }
+        requires stands { option_copied place ≡ standing functions.now self.old.frames }
+        requires safe { IsSafe functions.now self.old (resuming functions.now self.old.frames frame.Subject value) }
         ensures leads { Leads functions.now self.old (resuming functions.now self.old.frames frame.Subject value) (resuming_cost functions.now self.old.frames frame.Subject value) self.new result }
         ensures units { self.new.units ≤ self.old.units }
     {
-        match self.here(functions) {
+        match place {
             None => unreachable!(),
             Some(place) => self.pick(operations, functions, place, value),
         }
@@ -392,13 +438,15 @@ impl Machine {
         alloc: Global,
         operations: &O,
         functions: &'a List<Function>,
+        place: Option<&'a Term>,
         value: Value,
     ) -> Next<'a>
-        requires { IsSafe functions.now self.old (resuming functions.now self.old.frames frame.Rows value) }
+        requires stands { option_copied place ≡ standing functions.now self.old.frames }
+        requires safe { IsSafe functions.now self.old (resuming functions.now self.old.frames frame.Rows value) }
         ensures leads { Leads functions.now self.old (resuming functions.now self.old.frames frame.Rows value) (resuming_cost functions.now self.old.frames frame.Rows value) self.new result }
         ensures units { self.new.units ≤ self.old.units }
     {
-        match self.here(functions) {
+        match place {
             None => unreachable!(),
             Some(place) => self.each(alloc, operations, functions, place, value),
         }
@@ -409,15 +457,17 @@ impl Machine {
         &mut self,
         operations: &O,
         functions: &'a List<Function>,
+        place: Option<&'a Term>,
         done: List<Value>,
         rest: Stack<Value>,
         value: Value,
     ) -> Next<'a>
-        requires { IsSafe functions.now self.old (resuming functions.now self.old.frames (frame.Item done rest) value) }
+        requires stands { option_copied place ≡ standing functions.now self.old.frames }
+        requires safe { IsSafe functions.now self.old (resuming functions.now self.old.frames (frame.Item done rest) value) }
         ensures leads { Leads functions.now self.old (resuming functions.now self.old.frames (frame.Item done rest) value) (resuming_cost functions.now self.old.frames (frame.Item done rest) value) self.new result }
         ensures units { self.new.units ≤ self.old.units }
     {
-        match self.here(functions) {
+        match place {
             None => unreachable!(),
             Some(place) => match place {
                 Term::Each(_, body) => {
@@ -432,15 +482,17 @@ impl Machine {
         }
     }
 
-    /// Gives a value to the nearest frame.
+    /// Gives a value to the nearest frame. The frames below it lead to `place`.
     fn give<'a, O: Operations>(
         &mut self,
         alloc: Global,
         operations: &O,
         functions: &'a List<Function>,
+        place: Option<&'a Term>,
         value: Value,
     ) -> Next<'a>
-        requires { IsSafe functions.now self.old (giving value) }
+        requires stands { option_copied place ≡ standing functions.now (below self.old.frames) }
+        requires safe { IsSafe functions.now self.old (giving value) }
         ensures steps { Steps functions.now self.old (control.Give value) self.new result }
         ensures units { self.new.units ≤ self.old.units }
     {
@@ -459,13 +511,15 @@ impl Machine {
                 self.values.drop_nearest(bound);
                 Next::On(Control::Give(value))
             }
-            Some(Frame::Args(done)) => self.go_on_args(alloc, operations, functions, done, value),
-            Some(Frame::Condition) => self.go_on_choice(functions, value),
-            Some(Frame::Subject) => self.go_on_case(operations, functions, value),
-            Some(Frame::Rows) => self.go_on_rows(alloc, operations, functions, value),
+            Some(Frame::Args(done)) => {
+                self.go_on_args(alloc, operations, functions, place, done, value)
+            },
+            Some(Frame::Condition) => self.go_on_choice(functions, place, value),
+            Some(Frame::Subject) => self.go_on_case(operations, functions, place, value),
+            Some(Frame::Rows) => { self.go_on_rows(alloc, operations, functions, place, value) },
             Some(Frame::Item { done, rest }) => {
                 self.values.drop_nearest(1);
-                self.go_on_item(operations, functions, done, rest, value)
+                self.go_on_item(operations, functions, place, done, rest, value)
             }
         }
     }
@@ -476,16 +530,28 @@ impl Machine {
         alloc: Global,
         operations: &O,
         functions: &'a List<Function>,
+        places: &mut Places<'a>,
         control: Control<'a>,
     ) -> Next<'a>
         requires stands { Stands functions.now self.old control }
         requires safe { IsSafe functions.now self.old (beginning functions.now control) }
+        requires led { AreLed functions.now self.old.frames places.old.known }
         ensures steps { Steps functions.now self.old control.entry self.new result }
         ensures units { self.new.units ≤ self.old.units }
+        ensures led { IfOn result (AreLed functions.now self.new.frames places.new.known) }
     {
         match control {
-            Control::Enter(term) => self.enter(alloc, operations, functions, term),
-            Control::Give(value) => self.give(alloc, operations, functions, value),
+            Control::Enter(term) => {
+                let next = self.enter(alloc, operations, functions, places, term);
+                places.follow(&next);
+                next
+            }
+            Control::Give(value) => {
+                let place = places.leave(functions, &self.frames);
+                let next = self.give(alloc, operations, functions, place, value);
+                places.follow(&next);
+                next
+            }
         }
     }
 
@@ -503,9 +569,10 @@ impl Machine {
         ensures deed { IsDeed result }
         ensures units { self.new.units ≤ self.old.units }
     {
+        let mut places = Places::new(alloc);
         let mut control = control;
         loop {
-            match self.step(alloc, operations, functions, control) {
+            match self.step(alloc, operations, functions, &mut places, control) {
                 Next::On(next) => control = next,
                 Next::Off(pause) => return pause,
             }

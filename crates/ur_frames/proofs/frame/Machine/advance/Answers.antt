@@ -13,4 +13,5 @@ loop-next-preserved g c = record {
   stands = c.in-On.ensures.steps.stands;
   units = le_trans c.in-On.ensures.units c.loop-next.invariant.units;
   safe = λ stuck. c.loop-next.invariant.safe (c.in-On.ensures.steps.same until until_plays no_store [] ∙ stuck);
+  led = c.in-On.ensures.led;
 }

@@ -4,6 +4,7 @@ use Rattle.ur_values.specs.Store.{Store}
 use Rattle.ur_terms.specs.Run.{Does}
 use Rattle.ur_frames.specs.Plays.{Plays, until, no_store}
 use Rattle.ur_frames.specs.Steps.{Stands, IsSafe, beginning, left, work}
+use Rattle.ur_frames.specs.Places.{AreLed}
 use Rattle.ur_frames.proofs.frame.Machine.advance.Given as goal
 
 abbrev pub invariant-loop-next : goal.invariant-loop-next
@@ -12,6 +13,7 @@ invariant-loop-next g l = record {
   stands : Stands l.functions l.self l.control;
   units : l.self.units ≤ l.initial.self.units;
   safe : IsSafe l.functions l.self (beginning l.functions l.control);
+  led : AreLed l.functions l.self.frames l.places.known;
 }
 
 abbrev pub decreases-loop-next : goal.decreases-loop-next

@@ -1,11 +1,8 @@
 use Rattle.std.proofs.Common.{sym, ap, ◌∙◌, subst}
 use Rattle.ur_frames.specs.declared.frame.Frame.TheVariants as frame
 use Rattle.ur_frames.specs.Steps.{Descends}
-use Rattle.ur_frames.proofs.Entering.{enter_if, enter_case, enter_each, make_begins, call_begins, let_begins, begins_safe, begins_lead, known_variable}
+use Rattle.ur_frames.proofs.Entering.{enter_if, enter_case, enter_each, make_begins, call_begins, let_begins, begins_safe, begins_lead}
 use Rattle.ur_frames.proofs.frame.Machine.enter.Goals as goal
-
-pub unreachable-requires : goal.unreachable-requires
-unreachable-requires g c = known_variable c.args.functions.now c.args.self.now c.args.place.now _ c.in-Variable.is (sym c.in-None.ensures) c.requires.safe
 
 pub next_argument-requires-clause-safe : goal.next_argument-requires-clause-safe
 next_argument-requires-clause-safe g c = begins_safe c.args.functions.now c.args.self.now c.args.place.now c.new.result (make_begins c.args.functions.now c.args.place.now _ _ c.in-Make.is) c.new.ensures c.requires.safe
@@ -27,7 +24,7 @@ returns-in-Let-clause-leads g c = begins_lead c.args.functions.now c.args.self.n
 
 pub returns-in-If-clause-leads : goal.returns-in-If-clause-leads
 returns-in-If-clause-leads g c = enter_if c.args.functions.now c.args.self.now c.descend.new.self c.args.place.now _ _ _ c.descend.result c.requires.stands c.in-If.is
-    (subst (λ q. Descends frame.Condition q c.args.self.now c.descend.new.self c.descend.result) c.get-in-If.ensures c.descend.ensures.descends)
+    (subst (λ q. Descends frame.Condition q c.args.self.now c.descend.new.self c.descend.result) c.get.ensures c.descend.ensures.descends)
 
 pub returns-in-Case-clause-leads : goal.returns-in-Case-clause-leads
 returns-in-Case-clause-leads g c = enter_case c.args.functions.now c.args.self.now c.descend-in-Case.new.self c.args.place.now _ _ c.descend-in-Case.result c.requires.stands c.in-Case.is
