@@ -1,2 +1,3 @@
+mod Unstuck
 mod Spans
 mod States

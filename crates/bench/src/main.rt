@@ -7,6 +7,7 @@ mod changes;
 mod congruence;
 mod keeper;
 mod pieces;
+mod runs;
 
 ghost use Rattle.std.specs.Prelude.{◌≤◌, IfOk};
 
@@ -80,6 +81,11 @@ fn bench(rt: &HostRuntime) -> Result<(), BenchEnd> {
             request(rt, parts)
         }
         "pipelined" => pipelined(rt, words.next()),
+        "nested" => {
+            let levels = size(words.next(), runs::MOST_LEVELS)?;
+            let times = size(words.next(), runs::MOST_TIMES)?;
+            nested(rt, levels, times)
+        }
         name => count(rt, name, words.next()),
     }
 }
@@ -93,6 +99,7 @@ enum Run {
     Chain,
     Pairwise,
     Powers,
+    Rows,
 }
 
 fn run_of(name: &str) -> Option<Run> {
@@ -103,6 +110,7 @@ fn run_of(name: &str) -> Option<Run> {
         "chain" => Some(Run::Chain),
         "pairwise" => Some(Run::Pairwise),
         "powers" => Some(Run::Powers),
+        "rows" => Some(Run::Rows),
         _ => None,
     }
 }
@@ -110,7 +118,7 @@ fn run_of(name: &str) -> Option<Run> {
 /// The greatest size.
 fn most(run: Run) -> u32 {
     match run {
-        Run::Join | Run::Group | Run::Order => keeper::MOST_ROWS,
+        Run::Join | Run::Group | Run::Order | Run::Rows => keeper::MOST_ROWS,
         Run::Chain | Run::Pairwise | Run::Powers => congruence::MOST_TERMS,
     }
 }
@@ -123,6 +131,7 @@ fn counted(alloc: Global, run: Run, size: u32) -> Result<usize, Memory> {
         Run::Chain => congruence::chain(alloc, size),
         Run::Pairwise => congruence::pairwise(alloc, size),
         Run::Powers => congruence::powers(alloc, size),
+        Run::Rows => runs::count_rows(alloc, size),
     }
 }
 
@@ -139,6 +148,12 @@ fn count(rt: &HostRuntime, name: &str, word: Option<String>) -> Result<(), Bench
 fn request(rt: &HostRuntime, parts: pieces::Parts) -> Result<(), BenchEnd> {
     let cut = pieces::cut_bytes(rt.alloc(), parts)?;
     println!(rt; "request {cut}")?;
+    Ok(())
+}
+
+fn nested(rt: &HostRuntime, levels: u32, times: u32) -> Result<(), BenchEnd> {
+    let sum = runs::sum_nested(rt.alloc(), levels, times)?;
+    println!(rt; "nested {sum}")?;
     Ok(())
 }
 
