@@ -1,0 +1,11 @@
+pub mod Binders
+pub mod Exits
+pub mod Finding
+pub mod Judging
+pub mod Loops
+pub mod Meeting
+pub mod Naming
+pub mod Repeating
+pub mod Searching
+pub mod Standing
+pub mod Wanting

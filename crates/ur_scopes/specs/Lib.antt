@@ -1,0 +1,4 @@
+pub mod Given
+pub mod Meeting
+pub mod Searching
+pub mod Views
