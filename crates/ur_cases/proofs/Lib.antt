@@ -1,0 +1,5 @@
+pub mod Binders
+pub mod Broken
+pub mod Chosen
+mod Examples
+pub mod Telling
