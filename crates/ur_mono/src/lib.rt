@@ -1,6 +1,8 @@
-//! The code of instances.
+//! The code of instances, and that it means what the source means.
 #![tactic(auto)]
 
+mod coding;
 mod law;
 
+pub use coding::mono;
 pub use law::code_keeps_meaning;
