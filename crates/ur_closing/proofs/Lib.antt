@@ -1,0 +1,5 @@
+pub mod Laws
+pub mod Once
+pub mod Differ
+pub mod Finding
+pub mod Below

@@ -1,0 +1,15 @@
+-- Lists whose entries are there once.
+use Rattle.std.specs.Prelude.{◌≢◌, ℕ, List, map}
+use Rattle.std.specs.List.{AllByRecursion}
+use Rattle.ur_rows.specs.declared.normal.Normal.{Normal}
+use Rattle.ur_closing.specs.declared.con.Con.{Con}
+
+abbrev pub most_entries : ℕ
+most_entries = 4194304
+
+abbrev pub constructors : List Con → List Normal
+constructors = map (λ (c : Con). c.of)
+
+-- it is none of them
+abbrev pub IsAbsent : {A : Type 0} → List A → A → Type 0
+IsAbsent xs y = AllByRecursion (λ x. x ≢ y) xs
