@@ -1,0 +1,5 @@
+pub mod Chains
+pub mod ConShapes
+pub mod ExpShapes
+pub mod Ordering
+pub mod TextShapes
