@@ -1,0 +1,5 @@
+pub mod Marking
+pub mod Runs
+pub mod Statements
+pub mod Targets
+pub mod Views
