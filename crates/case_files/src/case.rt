@@ -60,6 +60,23 @@ impl Case {
         Ok(())
     }
 
+    /// A piece so many times, each with its number in the place of `#`.
+    fn count(
+        &mut self,
+        alloc: Global,
+        count: u16,
+        down: bool,
+        piece: &str,
+    ) -> Result<(), AllocError> {
+        let (before, behind) = piece.split_once('#').unwrap_or((piece, ""));
+        for n in 0..count {
+            let number = if down { count - n } else { n + 1 };
+            let text = format!(in alloc; "{before}{number:05}{behind}")?;
+            self.repeat(1, text.as_str())?;
+        }
+        Ok(())
+    }
+
     /// A line of what must come.
     fn want(&mut self, line: &str) -> Result<(), AllocError> {
         if !self.wanted.is_empty() {
@@ -116,7 +133,7 @@ impl Cases {
             return Ok(false);
         }
         match self.cases.last_mut() {
-            Some(case) => added(case, line),
+            Some(case) => added(alloc, case, line),
             None => Ok(false),
         }
     }
@@ -143,12 +160,14 @@ impl Cases {
 }
 
 /// Adds a line to a case, or answers that it is none of a case.
-fn added(case: &mut Case, line: &str) -> Result<bool, AllocError> {
+fn added(alloc: Global, case: &mut Case, line: &str) -> Result<bool, AllocError> {
     if let Some(more) = line.strip_prefix('|') {
         case.go_on(more.strip_prefix(' ').unwrap_or(more))?;
         Ok(true)
     } else if let Some(repeated) = line.strip_prefix("* ") {
         repeated_in(case, repeated)
+    } else if let Some(counted) = line.strip_prefix("** ") {
+        counted_in(alloc, case, counted)
     } else if line.starts_with('=') || line.starts_with('+') || line.starts_with('!') {
         case.want(line)?;
         Ok(true)
@@ -165,6 +184,21 @@ fn repeated_in(case: &mut Case, line: &str) -> Result<bool, AllocError> {
     match count.parse::<u16>() {
         Ok(count) => {
             case.repeat(count, piece)?;
+            Ok(true)
+        }
+        Err(_) => Ok(false),
+    }
+}
+
+/// Adds a piece with each number up to the one that a line says, or from it down where a minus sign stands before it.
+fn counted_in(alloc: Global, case: &mut Case, line: &str) -> Result<bool, AllocError> {
+    let Some((written, piece)) = line.split_once(' ') else {
+        return Ok(false);
+    };
+    let count = written.strip_prefix('-').unwrap_or(written);
+    match count.parse::<u16>() {
+        Ok(number) => {
+            case.count(alloc, number, count.len() < written.len(), piece)?;
             Ok(true)
         }
         Err(_) => Ok(false),

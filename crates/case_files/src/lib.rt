@@ -5,7 +5,9 @@
 mod case;
 mod printer;
 mod runs;
+mod written;
 
 pub use case::{Case, Cases};
 pub use printer::Printer;
 pub use runs::{Subjects, run};
+pub use written::plain;

@@ -83,6 +83,22 @@ impl Printer {
         self.put(b"\"");
     }
 
+    /// Bytes, `^` for each return, and ` /` for each end of a line with a blank before what stands behind it.
+    pub fn plain(&mut self, bytes: &[u8]) {
+        let mut ended = false;
+        for byte in bytes {
+            if ended {
+                self.put(b" ");
+            }
+            ended = *byte == b'\n';
+            match byte {
+                b'\r' => self.put(b"^"),
+                b'\n' => self.put(b" /"),
+                other => self.put(&[*other]),
+            }
+        }
+    }
+
     /// The code of a refusal, as `E07`.
     pub fn code(&mut self, code: u8) {
         self.put(b"E");

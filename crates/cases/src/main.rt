@@ -1,15 +1,18 @@
-//! Worked cases of the grammar, of names and of kinds. docs/CASES.md has the form of a case.
+//! Worked cases of tokens and of the grammar, of names, of kinds, of files of projects and of whole runs. docs/CASES.md has the form of a case.
 #![tactic(auto)]
 
 mod cons;
 mod decls;
+mod ends;
 mod exps;
+mod files;
 mod markup;
 mod names;
 mod outcome;
 mod pats;
 mod projects;
 mod reading;
+mod runs;
 mod sql;
 mod subject;
 
@@ -20,7 +23,7 @@ use std::process::ExitCode;
 use subject::Subject;
 use ur_base::{Memory, Text};
 
-/// The parts of the grammar, and the steps of names and of kinds.
+/// The parts of the grammar, the steps of names and of kinds, files of projects, and runs.
 struct Grammar;
 
 impl Subjects for Grammar {

@@ -4,6 +4,14 @@
 pub enum Subject {
     Part(Part),
     Step(Step),
+    /// how far a part reaches
+    End(Part),
+    /// one token
+    Token,
+    /// the modules that a file of a project names
+    Project,
+    /// what a whole run comes to
+    Run,
 }
 
 /// A part of the grammar.
@@ -46,6 +54,9 @@ impl Subject {
         match word {
             "names" => Some(Subject::Step(Step::Names)),
             "kinds" => Some(Subject::Step(Step::Kinds)),
+            "token" => Some(Subject::Token),
+            "project" => Some(Subject::Project),
+            "run" => Some(Subject::Run),
             _ => part_of_word(word),
         }
     }
@@ -71,6 +82,16 @@ fn part_of_word(word: &str) -> Option<Subject> {
         "decl" => Some(Subject::Part(Part::Decl)),
         "signature" => Some(Subject::Part(Part::Signature)),
         "module" => Some(Subject::Part(Part::Module)),
+        _ => end_of_word(word),
+    }
+}
+
+fn end_of_word(word: &str) -> Option<Subject> {
+    match word {
+        "kind-end" => Some(Subject::End(Part::Kind)),
+        "con-end" => Some(Subject::End(Part::Con)),
+        "sql-end" => Some(Subject::End(Part::Sql)),
+        "exp-end" => Some(Subject::End(Part::Exp)),
         _ => None,
     }
 }

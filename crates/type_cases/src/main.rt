@@ -1,6 +1,8 @@
-//! Worked cases of types, and of statements with what they answer, change and drop. docs/CASES.md has the form of a case.
+//! Worked cases of types, of XML at its places, and of statements with what they answer, change and drop. docs/CASES.md has the form of a case.
 #![tactic(auto)]
 
+mod literals;
+mod markup;
 mod reading;
 mod scope;
 mod statements;
@@ -12,10 +14,10 @@ mod values;
 use case_files::{Printer, Subjects, run};
 use std::alloc::Global;
 use std::process::ExitCode;
-use subject::{Subject, subject_of};
+use subject::{Part, Subject, subject_of};
 use ur_base::{Memory, Refusal, Stop, Text};
 
-/// Tokens, constructors and statements.
+/// Tokens, constructors, XML and statements.
 struct Cases;
 
 impl Subjects for Cases {
@@ -51,10 +53,20 @@ fn came(alloc: Global, subject: Subject, text: &str, p: &mut Printer) -> Result<
         Subject::Kind => types::kind(alloc, text, p),
         Subject::Normal => types::form(alloc, text, p),
         Subject::Apart => types::apart(alloc, text, p),
-        Subject::Typed => statements::typed(alloc, text, p),
-        Subject::Answers => statements::answers(alloc, text, p),
-        Subject::Changes => statements::changes(alloc, text, p),
-        Subject::Sites => statements::sites(alloc, text, p),
+        Subject::Statement(asked) => statements::statement(alloc, asked, text, p),
+        Subject::Sql(bare) => literals::sql(alloc, text, bare, p),
+        Subject::Xml(part) => xml(alloc, part, text, p),
+    }
+}
+
+fn xml(alloc: Global, part: Part, text: &str, p: &mut Printer) -> Result<(), Stop> {
+    match part {
+        Part::Node => markup::node(alloc, text, p),
+        Part::Text => markup::text(alloc, text, p),
+        Part::Splice => markup::splice(alloc, text, p),
+        Part::Shown => markup::shown(alloc, text, p),
+        Part::Frame => markup::frame(alloc, text, p),
+        Part::Fields => markup::fields(alloc, text, p),
     }
 }
 

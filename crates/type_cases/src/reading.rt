@@ -7,7 +7,8 @@ use ur_parse_code::Quotes;
 use ur_parse_con::{MAX_NESTING, MAX_PARENTHESES, read_con, read_kind};
 use ur_parse_rules::ConPlace;
 use ur_parse_select::read_query;
-use ur_syntax::{Con, Kind, SqlChange, SqlQuery};
+use ur_parse_sql::read_sexp;
+use ur_syntax::{Con, Kind, SqlChange, SqlExp, SqlQuery};
 
 /// The longest text that is read.
 const LONGEST: usize = 1048576;
@@ -54,4 +55,12 @@ pub fn change_of(alloc: Global, text: &str) -> Result<SqlChange, Stop> {
     let mut quotes = Quotes::new(alloc);
     let (change, _) = read_change(alloc, &tokens, 0, MAX_NESTING, SIGNS, &mut quotes)?;
     Ok(change)
+}
+
+/// An expression of SQL, where columns may be bare or not.
+pub fn sexp_of(alloc: Global, text: &str, bare: bool) -> Result<SqlExp, Stop> {
+    let tokens = tokens_of(alloc, text)?;
+    let mut quotes = Quotes::new(alloc);
+    let parsed = read_sexp(alloc, &tokens, 0, MAX_NESTING, SIGNS, bare, &mut quotes)?;
+    Ok(parsed.tree)
 }

@@ -4,6 +4,7 @@ ghost use Rattle.ur_sql.specs.Typing.{QueryFits, ChangeFits};
 
 use crate::reading::{change_of, query_of};
 use crate::scope::module;
+use crate::subject::Statement;
 use crate::tables::World;
 use crate::values::{put_planned, put_rows};
 use case_files::Printer;
@@ -17,6 +18,7 @@ use ur_sites::sites_text;
 use ur_sql::{Action, Change, Query, Scalar, answer, plan_action};
 use ur_sqlchange::{TypedChange, type_change};
 use ur_sqlquery::{TypedQuery, type_query};
+use ur_syntax::{SqlChange, SqlQuery};
 use ur_type_words::row_text;
 use ur_values::Schema;
 
@@ -28,10 +30,31 @@ fn found(world: &World, number: usize) -> &[Normal] {
     }
 }
 
-fn typed_query(alloc: Global, world: &World, text: &str) -> Result<TypedQuery, Stop> {
+fn query_typed(alloc: Global, world: &World, query: &SqlQuery) -> Result<TypedQuery, Stop> {
     let env = module(alloc)?;
+    type_query(alloc, &env, &world.schema, query, found(world, 0), &[])
+}
+
+fn typed_query(alloc: Global, world: &World, text: &str) -> Result<TypedQuery, Stop> {
     let query = query_of(alloc, text)?;
-    type_query(alloc, &env, &world.schema, &query, found(world, 0), &[])
+    query_typed(alloc, world, &query)
+}
+
+fn change_typed(
+    alloc: Global,
+    world: &World,
+    number: usize,
+    change: &SqlChange,
+) -> Result<TypedChange, Stop> {
+    let env = module(alloc)?;
+    type_change(
+        alloc,
+        &env,
+        &world.schema,
+        change,
+        found(world, number),
+        &[],
+    )
 }
 
 fn typed_change(
@@ -40,16 +63,30 @@ fn typed_change(
     number: usize,
     text: &str,
 ) -> Result<TypedChange, Stop> {
-    let env = module(alloc)?;
     let change = change_of(alloc, text)?;
-    type_change(
-        alloc,
-        &env,
-        &world.schema,
-        &change,
-        found(world, number),
-        &[],
-    )
+    change_typed(alloc, world, number, &change)
+}
+
+/// What comes of the statements of a text.
+pub fn statement(alloc: Global, asked: Statement, text: &str, p: &mut Printer) -> Result<(), Stop> {
+    let mut world = World::new(alloc);
+    put_in(alloc, asked, &mut world, text, p)
+}
+
+fn put_in(
+    alloc: Global,
+    asked: Statement,
+    world: &mut World,
+    text: &str,
+    p: &mut Printer,
+) -> Result<(), Stop> {
+    let (first, last) = world.read(text)?;
+    match asked {
+        Statement::Typed => put_typed(alloc, world, last, p),
+        Statement::Answers => put_answers(alloc, world, last, p),
+        Statement::Changes => put_changes(alloc, world, last, p),
+        Statement::Sites => put_sites(alloc, world, first, last, p),
+    }
 }
 
 // ---- types
@@ -61,7 +98,7 @@ fn put_words(p: &mut Printer, word: &[u8], count: usize) {
 }
 
 /// The row of a query's answer, and a word for each condition of a join, GROUP BY column, ORDER BY key and bound.
-fn put_query(alloc: Global, typed: &TypedQuery, p: &mut Printer) -> Result<(), Memory> {
+fn put_query(alloc: Global, typed: &TypedQuery, p: &mut Printer) -> Result<(), Stop> {
     let row = row_text(alloc, &[], typed.row.as_slice())?;
     p.put(b"=");
     p.word(row.as_slice());
@@ -93,23 +130,16 @@ fn put_typed_change(typed: &TypedChange, p: &mut Printer) {
 fn put_typed(alloc: Global, world: &World, text: &str, p: &mut Printer) -> Result<(), Stop> {
     if text.starts_with("SELECT") {
         let typed = typed_query(alloc, world, text)?;
-        return Ok(put_query(alloc, &typed, p)?);
+        return put_query(alloc, &typed, p);
     }
     let typed = typed_change(alloc, world, 0, text)?;
     put_typed_change(&typed, p);
     Ok(())
 }
 
-/// The typing of a query or a change.
-pub fn typed(alloc: Global, text: &str, p: &mut Printer) -> Result<(), Stop> {
-    let mut world = World::new(alloc);
-    let (_, statement) = world.read(text)?;
-    put_typed(alloc, &world, statement, p)
-}
-
 // ---- rows
 
-fn put_answer(alloc: Global, world: &World, query: &Query, p: &mut Printer) -> Result<(), Memory> {
+fn put_answer(alloc: Global, world: &World, query: &Query, p: &mut Printer) -> Result<(), Stop> {
     let rows = answer(alloc, query, world.args.as_slice(), world.rows.as_slice())?;
     put_rows(p, rows.as_slice());
     Ok(())
@@ -117,22 +147,10 @@ fn put_answer(alloc: Global, world: &World, query: &Query, p: &mut Printer) -> R
 
 fn put_answers(alloc: Global, world: &World, text: &str, p: &mut Printer) -> Result<(), Stop> {
     let typed = typed_query(alloc, world, text)?;
-    Ok(put_answer(alloc, world, &typed.core, p)?)
+    put_answer(alloc, world, &typed.core, p)
 }
 
-/// The rows that a query answers.
-pub fn answers(alloc: Global, text: &str, p: &mut Printer) -> Result<(), Stop> {
-    let mut world = World::new(alloc);
-    let (_, statement) = world.read(text)?;
-    put_answers(alloc, &world, statement, p)
-}
-
-fn put_change(
-    alloc: Global,
-    world: &World,
-    change: &Change,
-    p: &mut Printer,
-) -> Result<(), Memory> {
+fn put_change(alloc: Global, world: &World, change: &Change, p: &mut Printer) -> Result<(), Stop> {
     if let Some(rows) = world.rows.get(0) {
         let planned = plan_action(
             alloc,
@@ -148,14 +166,7 @@ fn put_change(
 
 fn put_changes(alloc: Global, world: &World, text: &str, p: &mut Printer) -> Result<(), Stop> {
     let typed = typed_change(alloc, world, 0, text)?;
-    Ok(put_change(alloc, world, &typed.core, p)?)
-}
-
-/// What a change does to the rows of the one table.
-pub fn changes(alloc: Global, text: &str, p: &mut Printer) -> Result<(), Stop> {
-    let mut world = World::new(alloc);
-    let (_, statement) = world.read(text)?;
-    put_changes(alloc, &world, statement, p)
+    put_change(alloc, world, &typed.core, p)
 }
 
 // ---- patterns
@@ -254,11 +265,23 @@ fn put_typed_sites(
     query: Query,
     change: Change,
     p: &mut Printer,
-) -> Result<(), Memory> {
+) -> Result<(), Stop> {
     if !are_fit(alloc, schema, &query, &change)? {
         return Ok(());
     }
-    put_fit(alloc, schema, query, change, p)
+    Ok(put_fit(alloc, schema, query, change, p)?)
+}
+
+/// Those of a query that the change of a text drops.
+fn put_changed(
+    alloc: Global,
+    world: &World,
+    query: Query,
+    change: &str,
+    p: &mut Printer,
+) -> Result<(), Stop> {
+    let change = typed_change(alloc, world, 1, change)?.core;
+    put_typed_sites(alloc, &world.schema, query, change, p)
 }
 
 fn put_sites(
@@ -269,13 +292,5 @@ fn put_sites(
     p: &mut Printer,
 ) -> Result<(), Stop> {
     let query = typed_query(alloc, world, query)?.core;
-    let change = typed_change(alloc, world, 1, change)?.core;
-    Ok(put_typed_sites(alloc, &world.schema, query, change, p)?)
-}
-
-/// The keys of a query that a change drops.
-pub fn sites(alloc: Global, text: &str, p: &mut Printer) -> Result<(), Stop> {
-    let mut world = World::new(alloc);
-    let (query, change) = world.read(text)?;
-    put_sites(alloc, &world, query, change, p)
+    put_changed(alloc, world, query, change, p)
 }

@@ -116,8 +116,9 @@ fn type_of(value: &Value) -> NormalType {
     }
 }
 
-fn named_type(word: &str) -> NormalType {
+pub fn named_type(word: &str) -> NormalType {
     match word {
+        "xtr" => NormalType::Xtr,
         "int" => NormalType::Int,
         "bool" => NormalType::Bool,
         "string" => NormalType::Str,

@@ -8,7 +8,7 @@ use ur_disjoint::{Assumed, prove};
 use ur_kinds::{kind_of, kind_text};
 use ur_normal::normal;
 use ur_rows::{Label, Normal, Part};
-use ur_syntax::{Con, ConEnv};
+use ur_syntax::{Con, ConEnv, Kind};
 use ur_type_words::{row_text, type_text};
 
 /// How many tokens there are.
@@ -19,13 +19,21 @@ pub fn tokens(alloc: Global, text: &str, p: &mut Printer) -> Result<(), Stop> {
     Ok(())
 }
 
-fn put_kind(alloc: Global, env: &ConEnv, text: &str, p: &mut Printer) -> Result<(), Stop> {
-    let con = con_of(alloc, text)?;
-    let kind = kind_of(alloc, env, &con)?;
-    let text = kind_text(alloc, &kind)?;
+fn put_kind_text(alloc: Global, kind: &Kind, p: &mut Printer) -> Result<(), Stop> {
+    let text = kind_text(alloc, kind)?;
     p.put(b"=");
     p.word(text.as_slice());
     Ok(())
+}
+
+fn put_kind_of(alloc: Global, env: &ConEnv, con: &Con, p: &mut Printer) -> Result<(), Stop> {
+    let kind = kind_of(alloc, env, con)?;
+    put_kind_text(alloc, &kind, p)
+}
+
+fn put_kind(alloc: Global, env: &ConEnv, text: &str, p: &mut Printer) -> Result<(), Stop> {
+    let con = con_of(alloc, text)?;
+    put_kind_of(alloc, env, &con, p)
 }
 
 /// The lines before the last one, and the last one.
@@ -35,10 +43,14 @@ fn parts(text: &str) -> (&str, &str) {
 
 /// The kind of a constructor.
 pub fn kind(alloc: Global, text: &str, p: &mut Printer) -> Result<(), Stop> {
-    let (before, con) = parts(text);
     let mut env = module(alloc)?;
-    scope(alloc, &mut env, before)?;
-    put_kind(alloc, &env, con, p)
+    put_kind_in(alloc, &mut env, text, p)
+}
+
+fn put_kind_in(alloc: Global, env: &mut ConEnv, text: &str, p: &mut Printer) -> Result<(), Stop> {
+    let (before, con) = parts(text);
+    scope(alloc, env, before)?;
+    put_kind(alloc, env, con, p)
 }
 
 /// The text of a type or of a row, `#A` for a name, and `fn` for a function.
@@ -56,21 +68,33 @@ fn form_text(alloc: Global, form: &Normal) -> Result<Text, Memory> {
     }
 }
 
-fn put_form(alloc: Global, env: &ConEnv, text: &str, p: &mut Printer) -> Result<(), Stop> {
-    let con = con_of(alloc, text)?;
-    let form = normal(alloc, env, &con)?;
-    let text = form_text(alloc, &form)?;
+fn put_form_text(alloc: Global, form: &Normal, p: &mut Printer) -> Result<(), Stop> {
+    let text = form_text(alloc, form)?;
     p.put(b"=");
     p.word(text.as_slice());
     Ok(())
 }
 
+fn put_form_of(alloc: Global, env: &ConEnv, con: &Con, p: &mut Printer) -> Result<(), Stop> {
+    let form = normal(alloc, env, con)?;
+    put_form_text(alloc, &form, p)
+}
+
+fn put_form(alloc: Global, env: &ConEnv, text: &str, p: &mut Printer) -> Result<(), Stop> {
+    let con = con_of(alloc, text)?;
+    put_form_of(alloc, env, &con, p)
+}
+
 /// The normal form of a constructor.
 pub fn form(alloc: Global, text: &str, p: &mut Printer) -> Result<(), Stop> {
-    let (before, con) = parts(text);
     let mut env = module(alloc)?;
-    scope(alloc, &mut env, before)?;
-    put_form(alloc, &env, con, p)
+    put_form_in(alloc, &mut env, text, p)
+}
+
+fn put_form_in(alloc: Global, env: &mut ConEnv, text: &str, p: &mut Printer) -> Result<(), Stop> {
+    let (before, con) = parts(text);
+    scope(alloc, env, before)?;
+    put_form(alloc, env, con, p)
 }
 
 fn row_of(alloc: Global, env: &ConEnv, con: &Con) -> Result<List<Part>, Stop> {
@@ -96,8 +120,12 @@ fn pair(alloc: Global, env: &ConEnv, line: &str) -> Result<Assumed, Stop> {
 /// Whether the rows of the last line are apart where those of each line before it are.
 pub fn apart(alloc: Global, text: &str, p: &mut Printer) -> Result<(), Stop> {
     let mut env = module(alloc)?;
-    scope(alloc, &mut env, "")?;
-    are_apart(alloc, &env, text, p)
+    scoped_apart(alloc, &mut env, text, p)
+}
+
+fn scoped_apart(alloc: Global, env: &mut ConEnv, text: &str, p: &mut Printer) -> Result<(), Stop> {
+    scope(alloc, env, "")?;
+    are_apart(alloc, env, text, p)
 }
 
 fn are_apart(alloc: Global, env: &ConEnv, text: &str, p: &mut Printer) -> Result<(), Stop> {

@@ -28,27 +28,45 @@ pub fn is_fetched(fetched: &Result<Fetched, FetchEnd>, want: &str) -> bool {
     }
 }
 
-#[test]
-fn files_in_memory(rt: HostRuntime) -> Result<(), Fail> {
-    let alloc = rt.alloc();
+/// Files of these names and texts, of which the second and the seventh call fail.
+fn shelf(alloc: Global) -> Result<MemoryShelf, Memory> {
     let mut files = List::new(alloc);
     for (name, text) in [("a.ur", "12345"), ("empty", ""), ("a.ur", "second")] {
-        files.push((bytes(alloc, name)?, bytes(alloc, text)?))?;
+        let text = bytes(alloc, text)?;
+        let name = bytes(alloc, name)?;
+        files.push((name, text))?;
     }
-    let mut shelf = MemoryShelf::new(alloc, files, calls(alloc, &[2, 7])?);
-    let rows = [
-        ("a.ur", 5, "12345"),
-        ("a.ur", 5, "failed"),
-        ("a.ur", 6, "12345"),
-        ("a.ur", 4, "is longer"),
-        ("empty", 0, ""),
-        ("b.ur", 5, "is missing"),
-        ("b.ur", 5, "failed"),
-    ];
-    for (name, most, want) in rows {
-        let fetched = shelf.fetch(name, most);
-        assert!(rt; is_fetched(&fetched, want), "{name} up to {most}: {want}");
+    let fail = calls(alloc, &[2, 7])?;
+    Ok(MemoryShelf::new(alloc, files, fail))
+}
+
+/// What is fetched, and how.
+const FETCHES: [(&str, usize, &str); 7] = [
+    ("a.ur", 5, "12345"),
+    ("a.ur", 5, "failed"),
+    ("a.ur", 6, "12345"),
+    ("a.ur", 4, "is longer"),
+    ("empty", 0, ""),
+    ("b.ur", 5, "is missing"),
+    ("b.ur", 5, "failed"),
+];
+
+/// How many of the rows come as they must, one after the other.
+fn fetches<S: Shelf>(shelf: &mut S, rows: &[(&str, usize, &str)]) -> usize {
+    let mut right = 0usize;
+    for row in rows {
+        let fetched = shelf.fetch(row.0, row.1);
+        if is_fetched(&fetched, row.2) {
+            right = right.saturating_add(1);
+        }
     }
+    right
+}
+
+#[test]
+fn files_in_memory(rt: HostRuntime) -> Result<(), Fail> {
+    let mut shelf = shelf(rt.alloc())?;
+    assert_eq!(rt; fetches(&mut shelf, &FETCHES), 7);
     Ok(())
 }
 

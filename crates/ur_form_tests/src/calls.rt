@@ -1,188 +1,164 @@
-use crate::written::{at, var};
+//! Instances, and scopes that are prepared once.
 use std::alloc::Global;
-use ur_base::{List, Memory, Stop, Text};
-use ur_disjoint::are_apart;
-use ur_fields::{field_type, is_of_kind, is_value_type, may_run, without};
+use ur_base::{List, Memory, Span, Stop, Text};
+use ur_fields::is_of_kind;
 use ur_instances::instance_type;
 use ur_normal::{Layer, Place, Prepared, label_in, normal_in};
 use ur_reduce::Halt;
-use ur_rows::{
-    Label, Normal, NormalType, Part, Var, boxed, equal, equal_labels, equal_types, joined, one,
-};
+use ur_rows::{Label, Normal, NormalType, Part, Var, boxed, equal, equal_labels, equal_types, one};
 use ur_syntax::{CField, Con, ConForm, FieldName, Kind};
 
-fn field(alloc: Global, label: Label, t: NormalType) -> Result<List<Part>, Memory> {
-    one(alloc, Part::Field(label, boxed(alloc, t)?))
+fn text(alloc: Global, bytes: &[u8]) -> Result<Text, Memory> {
+    List::from_slice(alloc, bytes)
 }
 
 fn literal(alloc: Global, name: &[u8]) -> Result<Label, Memory> {
-    Ok(Label::Literal(List::from_slice(alloc, name)?))
+    Ok(Label::Literal(text(alloc, name)?))
 }
 
-// ---- fields
-
-/// `[A = int] ++ [x0 = string]`
-fn row(alloc: Global) -> Result<List<Part>, Memory> {
-    let a = field(alloc, literal(alloc, b"A")?, NormalType::Int)?;
-    let x = field(alloc, Label::Variable(Var::Free(0)), NormalType::Str)?;
-    joined(a, x)
-}
-
-#[derive(Clone, Copy)]
-enum Named {
-    A,
-    B,
-    Variable,
-}
-
-fn label(alloc: Global, name: Named) -> Result<Label, Memory> {
-    match name {
-        Named::A => literal(alloc, b"A"),
-        Named::B => literal(alloc, b"B"),
-        Named::Variable => Ok(Label::Variable(Var::Free(0))),
-    }
-}
-
-fn is_field_of(alloc: Global, name: Named, wanted: &NormalType) -> Result<bool, Memory> {
-    let l = label(alloc, name)?;
-    let r = row(alloc)?;
-    match field_type(&l, &r) {
-        Some(t) => Ok(equal_types(t, wanted)),
-        None => Ok(false),
-    }
-}
-
-fn left_without(alloc: Global, name: Named) -> Result<usize, Memory> {
-    let l = label(alloc, name)?;
-    let r = row(alloc)?;
-    Ok(without(&l, r).len())
-}
-
-#[test]
-fn fields_by_their_names(rt: HostRuntime) -> Result<(), Memory> {
-    assert!(rt; is_field_of(rt.alloc(), Named::A, &NormalType::Int)?);
-    assert!(rt; is_field_of(rt.alloc(), Named::Variable, &NormalType::Str)?);
-    assert!(rt; !is_field_of(rt.alloc(), Named::B, &NormalType::Int)?);
-    assert!(rt; left_without(rt.alloc(), Named::Variable)? == 1);
-    assert!(rt; left_without(rt.alloc(), Named::B)? == 2);
-    Ok(())
-}
-
-// ---- where types stand
-
-/// `int -> transaction page`
-fn action(alloc: Global) -> Result<NormalType, Memory> {
-    let int = boxed(alloc, NormalType::Int)?;
-    let page = boxed(alloc, NormalType::Page)?;
-    let result = boxed(alloc, NormalType::Transaction(page))?;
-    Ok(NormalType::Arrow(int, result))
-}
-
-fn runs(alloc: Global) -> Result<bool, Memory> {
-    let t = action(alloc)?;
-    Ok(may_run(&t) && !is_value_type(&t))
-}
-
-/// Whether the row has the kind of rows where `x0` has that kind.
-fn is_row_with(alloc: Global, kind: Kind) -> Result<bool, Memory> {
-    let r = Normal::Row(row(alloc)?);
-    is_of_kind(&r, &Kind::Row, &[kind])
-}
-
-/// `A` is not known to be another name than `x0`.
-fn may_meet(alloc: Global) -> Result<bool, Memory> {
-    let r = row(alloc)?;
-    Ok(!are_apart(&[], r.as_slice()))
-}
-
-#[test]
-fn where_types_stand(rt: HostRuntime) -> Result<(), Memory> {
-    assert!(rt; runs(rt.alloc())?);
-    assert!(rt; is_row_with(rt.alloc(), Kind::Name)?);
-    assert!(rt; !is_row_with(rt.alloc(), Kind::Star)?);
-    assert!(rt; may_meet(rt.alloc())?);
-    Ok(())
+fn row(alloc: Global, label: Label, t: NormalType) -> Result<List<Part>, Memory> {
+    let part = Part::Field(label, boxed(alloc, t)?);
+    one(alloc, part)
 }
 
 // ---- instances
 
-/// Whether `$[x0 = x1]` is `$[A = int]` at `A` and `int`.
-fn is_instance(alloc: Global) -> Result<bool, Memory> {
-    let x = field(
-        alloc,
-        Label::Variable(Var::Free(0)),
-        NormalType::Variable(Var::Free(1)),
-    )?;
-    let a = field(alloc, literal(alloc, b"A")?, NormalType::Int)?;
-    let args = [
-        Normal::Name(literal(alloc, b"A")?),
-        Normal::Type(NormalType::Int),
-    ];
-    match instance_type(alloc, &args, &NormalType::Record(x)) {
-        Ok(made) => Ok(equal_types(&made, &NormalType::Record(a))),
+/// `$[x0 = x1]`
+fn of_variables(alloc: Global) -> Result<NormalType, Memory> {
+    let name = Label::Variable(Var::Free(0));
+    let row = row(alloc, name, NormalType::Variable(Var::Free(1)))?;
+    Ok(NormalType::Record(row))
+}
+
+/// `$[A = int]`
+fn of_int(alloc: Global) -> Result<NormalType, Memory> {
+    let name = literal(alloc, b"A")?;
+    let row = row(alloc, name, NormalType::Int)?;
+    Ok(NormalType::Record(row))
+}
+
+fn is_of_int(alloc: Global, made: &NormalType) -> Result<bool, Memory> {
+    let wanted = of_int(alloc)?;
+    Ok(equal_types(made, &wanted))
+}
+
+/// Whether the type at a name and `int` is `$[A = int]`.
+fn gives_of_int(alloc: Global, name: Label, t: &NormalType) -> Result<bool, Memory> {
+    let args = [Normal::Name(name), Normal::Type(NormalType::Int)];
+    match instance_type(alloc, &args, t) {
+        Ok(made) => is_of_int(alloc, &made),
         Err(Halt::Memory) => Err(Memory),
         Err(Halt::TooLarge) => Ok(false),
     }
 }
 
+/// Whether `$[x0 = x1]` is `$[A = int]` at `A` and `int`.
+fn is_instance(alloc: Global) -> Result<bool, Memory> {
+    let name = literal(alloc, b"A")?;
+    let t = of_variables(alloc)?;
+    gives_of_int(alloc, name, &t)
+}
+
+/// Whether the row of a field `x0` has the kind of rows where `x0` has that kind.
+fn is_row_with(alloc: Global, kind: Kind) -> Result<bool, Memory> {
+    let name = Label::Variable(Var::Free(0));
+    let form = Normal::Row(row(alloc, name, NormalType::Int)?);
+    is_of_kind(&form, &Kind::Row, &[kind])
+}
+
 #[test]
 fn an_instance_of_a_name_and_a_type(rt: HostRuntime) -> Result<(), Memory> {
     assert!(rt; is_instance(rt.alloc())?);
+    assert!(rt; is_row_with(rt.alloc(), Kind::Name)?);
+    assert!(rt; !is_row_with(rt.alloc(), Kind::Star)?);
     Ok(())
 }
 
 // ---- a scope that is prepared once
 
-fn text(alloc: Global, bytes: &[u8]) -> Result<Text, Memory> {
-    Ok(List::from_slice(alloc, bytes)?)
+fn at(form: ConForm) -> Con {
+    Con {
+        span: Span {
+            file: 0,
+            from: 0,
+            to: 0,
+        },
+        form,
+    }
 }
 
-/// The module `M` with `con t = int`.
+fn var(alloc: Global, x: &[u8]) -> Result<Con, Memory> {
+    let name = text(alloc, x)?;
+    Ok(at(ConForm::Var(name)))
+}
+
+/// Defines `t` of the module `M` as `int`.
+fn define(alloc: Global, scope: &mut Prepared, home: &Text) -> Result<(), Memory> {
+    let name = text(alloc, b"t")?;
+    let int = var(alloc, b"int")?;
+    scope.define(alloc, home, &name, &int)
+}
+
 fn module(alloc: Global) -> Result<Prepared, Memory> {
     let home = text(alloc, b"M")?;
     let mut scope = Prepared::empty(alloc, &home)?;
-    let int = var(alloc, b"int")?;
-    let name = text(alloc, b"t")?;
-    scope.define(alloc, &home, &name, &int)?;
+    define(alloc, &mut scope, &home)?;
     Ok(scope)
 }
 
 /// `[nm = t]`
 fn named_field(alloc: Global) -> Result<Con, Memory> {
     let name = FieldName::Variable(text(alloc, b"nm")?);
+    let field = CField::Given(name, var(alloc, b"t")?);
     let mut fields = List::new(alloc);
-    fields.push(CField::Given(name, var(alloc, b"t")?))?;
+    fields.push(field)?;
     Ok(at(ConForm::Row(fields)))
 }
 
-fn is_form_at(alloc: Global, place: &Place, con: &Con, wanted: &Normal) -> Result<bool, Memory> {
+/// Whether the form is the row of one field of int under the first variable.
+fn is_row(alloc: Global, form: &Normal) -> Result<bool, Memory> {
+    let name = Label::Variable(Var::Free(0));
+    let wanted = Normal::Row(row(alloc, name, NormalType::Int)?);
+    Ok(equal(form, &wanted))
+}
+
+fn is_form(alloc: Global, place: &Place, con: &Con) -> Result<bool, Memory> {
     match normal_in(alloc, place, con) {
-        Ok(form) => Ok(equal(&form, wanted)),
+        Ok(form) => is_row(alloc, &form),
         Err(Stop::Memory) => Err(Memory),
         Err(Stop::Refused(_)) => Ok(false),
     }
 }
 
-/// Whether `nm` is the first variable at the place, and `[nm = t]` the row of a field of it.
-fn is_step(alloc: Global, place: &Place) -> Result<bool, Memory> {
-    let x = Label::Variable(Var::Free(0));
+/// Whether `nm` is the first variable at the place.
+fn is_first(alloc: Global, place: &Place) -> Result<bool, Memory> {
     let name = FieldName::Variable(text(alloc, b"nm")?);
-    let named = equal_labels(&label_in(alloc, place, &name)?, &x);
-    let row = Normal::Row(field(alloc, x, NormalType::Int)?);
-    let con = named_field(alloc)?;
-    let formed = is_form_at(alloc, place, &con, &row)?;
-    Ok(named && formed)
+    let label = label_in(alloc, place, &name)?;
+    Ok(equal_labels(&label, &Label::Variable(Var::Free(0))))
 }
 
-fn is_prepared(alloc: Global) -> Result<bool, Memory> {
-    let scope = module(alloc)?;
+/// Whether `nm` is the first variable at the place, and `[nm = t]` the row of a field of it.
+fn is_step(alloc: Global, place: &Place) -> Result<bool, Memory> {
+    if !is_first(alloc, place)? {
+        return Ok(false);
+    }
+    let con = named_field(alloc)?;
+    is_form(alloc, place, &con)
+}
+
+fn is_prepared_in(alloc: Global, scope: &Prepared) -> Result<bool, Memory> {
     let place = scope.in_scope();
     let mut step = Layer::new(alloc, &place);
     let name = text(alloc, b"nm")?;
     step.bind(alloc, &name, &Kind::Name)?;
     let within = step.over(&place);
-    let result = is_step(alloc, &within)?;
-    Ok(result)
+    let found = is_step(alloc, &within)?;
+    Ok(found)
+}
+
+fn is_prepared(alloc: Global) -> Result<bool, Memory> {
+    let scope = module(alloc)?;
+    is_prepared_in(alloc, &scope)
 }
 
 #[test]

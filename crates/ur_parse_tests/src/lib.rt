@@ -1,7 +1,5 @@
-//! Tests of tokens and of the readers of the grammar that no text of a case shows: bytes, contents and spans, and trees of the greatest height.
+//! Tests of trees of the greatest height, which are read and dropped within the default stack.
 #![tactic(auto)]
 
 #[cfg(test)]
 mod tall;
-#[cfg(test)]
-mod tokens;

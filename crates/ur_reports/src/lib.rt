@@ -3,8 +3,6 @@
 
 mod counts;
 mod fixed;
-#[cfg(test)]
-mod tests;
 mod written;
 
 pub use counts::LoadReport;

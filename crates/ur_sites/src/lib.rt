@@ -3,7 +3,5 @@
 
 mod lines;
 mod patterns;
-#[cfg(test)]
-mod tests;
 
 pub use lines::sites_text;

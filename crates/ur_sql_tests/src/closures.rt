@@ -46,28 +46,36 @@ fn power(closure: &mut Closure, of: Term, times: u32) -> Result<Term, Memory> {
 }
 
 /// Whether three and five steps back to the variable make one step lead back too, and none does before the second.
-fn steps_lead_back(alloc: Global) -> Result<bool, Memory> {
-    let mut closure = Closure::new(alloc);
-    let x = variable(&mut closure, 0)?;
-    let one = power(&mut closure, x, 1)?;
-    let three = power(&mut closure, one, 2)?;
-    let five = power(&mut closure, three, 2)?;
-    equate(&mut closure, three, x)?;
-    let early = are_same(&closure, one, x);
-    equate(&mut closure, five, x)?;
-    Ok(!early && are_same(&closure, one, x))
+fn steps_lead_back(closure: &mut Closure) -> Result<bool, Memory> {
+    let x = variable(closure, 0)?;
+    let one = power(closure, x, 1)?;
+    let three = power(closure, one, 2)?;
+    let five = power(closure, three, 2)?;
+    equate(closure, three, x)?;
+    let early = are_same(closure, one, x);
+    equate(closure, five, x)?;
+    Ok(!early && are_same(closure, one, x))
 }
 
-/// How large the class of a constant is that is equal to a variable, beside a constant, and whether there is a number for each
-/// term.
+fn lead_back(alloc: Global) -> Result<bool, Memory> {
+    let mut closure = Closure::new(alloc);
+    steps_lead_back(&mut closure)
+}
+
+/// Whether the class of a constant that is equal to a variable has two terms, beside a constant, and there is a number for each term.
+fn makes_a_class(closure: &mut Closure) -> Result<bool, Memory> {
+    let one = constant(closure, 1)?;
+    let other = constant(closure, 2)?;
+    let x = variable(closure, 0)?;
+    equate(closure, one, x)?;
+    let sizes = (size_of(closure, one)?, size_of(closure, other)?);
+    let classes = closure.classes()?;
+    Ok(classes.len() == 3 && sizes == (2, 1))
+}
+
 fn class_of_two(alloc: Global) -> Result<bool, Memory> {
     let mut closure = Closure::new(alloc);
-    let one = constant(&mut closure, 1)?;
-    let other = constant(&mut closure, 2)?;
-    let x = variable(&mut closure, 0)?;
-    equate(&mut closure, one, x)?;
-    let classes = closure.classes()?;
-    Ok(classes.len() == 3 && size_of(&closure, one)? == 2 && size_of(&closure, other)? == 1)
+    makes_a_class(&mut closure)
 }
 
 fn size_of(closure: &Closure, term: Term) -> Result<usize, Memory> {
@@ -80,7 +88,7 @@ fn size_of(closure: &Closure, term: Term) -> Result<usize, Memory> {
 
 #[test]
 fn equations_follow(rt: HostRuntime) -> Result<(), Memory> {
-    assert!(rt; steps_lead_back(rt.alloc())?);
+    assert!(rt; lead_back(rt.alloc())?);
     assert!(rt; class_of_two(rt.alloc())?);
     Ok(())
 }

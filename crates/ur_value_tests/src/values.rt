@@ -3,17 +3,33 @@ use std::alloc::Global;
 use ur_base::{Boxed, List, Memory, Name, Text};
 use ur_values::{Call, ColumnKind, Node, Numbered, Schema, TableShape, Tag, Value};
 
+fn only<T: Drop>(alloc: Global, element: T) -> Result<List<T>, Memory> {
+    let mut list = List::new(alloc);
+    list.push(element)?;
+    Ok(list)
+}
+
+fn label(alloc: Global) -> Result<List<Node>, Memory> {
+    let label = text(alloc, b"abc")?;
+    only(alloc, Node::Text(label))
+}
+
+fn link(alloc: Global) -> Result<Node, Memory> {
+    let args = only(alloc, Value::Int(7))?;
+    let inner = label(alloc)?;
+    Ok(Node::Link(Call { route: 1, args }, inner))
+}
+
+fn paragraph(alloc: Global) -> Result<Node, Memory> {
+    let link = link(alloc)?;
+    let links = only(alloc, link)?;
+    Ok(Node::Element(Tag::P, links))
+}
+
 /// A page with a paragraph that holds a link.
 fn page(alloc: Global) -> Result<Value, Memory> {
-    let label = text(alloc, b"abc")?;
-    let mut inner = List::new(alloc);
-    inner.push(Node::Text(label))?;
-    let mut args = List::new(alloc);
-    args.push(Value::Int(7))?;
-    let mut links = List::new(alloc);
-    links.push(Node::Link(Call { route: 1, args }, inner))?;
-    let mut nodes = List::new(alloc);
-    nodes.push(Node::Element(Tag::P, links))?;
+    let paragraph = paragraph(alloc)?;
+    let nodes = only(alloc, paragraph)?;
     Ok(Value::Markup(nodes))
 }
 
@@ -42,15 +58,11 @@ fn tagged(alloc: Global, value: Value) -> Result<Value, Memory> {
 }
 
 fn listed(alloc: Global, value: Value) -> Result<Value, Memory> {
-    let mut items = List::new(alloc);
-    items.push(value)?;
-    Ok(Value::Many(items))
+    Ok(Value::Many(only(alloc, value)?))
 }
 
 fn record(alloc: Global, value: Value) -> Result<Value, Memory> {
-    let mut fields = List::new(alloc);
-    fields.push((Name(0), value))?;
-    Ok(Value::Row(fields))
+    Ok(Value::Row(only(alloc, (Name(0), value))?))
 }
 
 /// The value with so many others round it.
@@ -111,19 +123,37 @@ fn atoms_and_rows_are_made(rt: HostRuntime) -> Result<(), Memory> {
     Ok(())
 }
 
+fn column(alloc: Global, name: &[u8], kind: ColumnKind) -> Result<(Text, ColumnKind), Memory> {
+    let name = text(alloc, name)?;
+    Ok((name, kind))
+}
+
+fn columns(alloc: Global) -> Result<List<(Text, ColumnKind)>, Memory> {
+    let mut columns = List::new(alloc);
+    for (name, kind) in [
+        (b"Body".as_slice(), ColumnKind::Str),
+        (b"Id", ColumnKind::Int),
+    ] {
+        let column = column(alloc, name, kind)?;
+        columns.push(column)?;
+    }
+    Ok(columns)
+}
+
+fn keys(alloc: Global) -> Result<List<List<u32>>, Memory> {
+    let mut keys = List::new(alloc);
+    for columns in [[1].as_slice(), &[1, 0]] {
+        let key = List::from_slice(alloc, columns)?;
+        keys.push(key)?;
+    }
+    Ok(keys)
+}
+
 /// A table of a text and an int, with its primary key and another one.
 fn notes(alloc: Global) -> Result<TableShape, Memory> {
+    let columns = columns(alloc)?;
+    let keys = keys(alloc)?;
     let name = text(alloc, b"Main.note")?;
-    let body = text(alloc, b"Body")?;
-    let id = text(alloc, b"Id")?;
-    let mut columns = List::new(alloc);
-    columns.push((body, ColumnKind::Str))?;
-    columns.push((id, ColumnKind::Int))?;
-    let first = List::from_slice(alloc, &[1])?;
-    let second = List::from_slice(alloc, &[1, 0])?;
-    let mut keys = List::new(alloc);
-    keys.push(first)?;
-    keys.push(second)?;
     Ok(TableShape {
         name,
         columns,
@@ -132,22 +162,35 @@ fn notes(alloc: Global) -> Result<TableShape, Memory> {
     })
 }
 
-fn schema(alloc: Global) -> Result<Schema, Memory> {
+fn tables(alloc: Global) -> Result<List<TableShape>, Memory> {
     let table = notes(alloc)?;
-    let mut tables = List::new(alloc);
-    tables.push(table)?;
+    only(alloc, table)
+}
+
+fn schema(alloc: Global) -> Result<Schema, Memory> {
     let name = text(alloc, b"Main.ids")?;
-    let mut sequences = List::new(alloc);
-    sequences.push(name)?;
+    let sequences = only(alloc, name)?;
+    let tables = tables(alloc)?;
     Ok(Schema { tables, sequences })
+}
+
+fn has_text(alloc: Global, schema: &Schema, want: &[u8]) -> Result<bool, Memory> {
+    let line = schema.text(alloc)?;
+    Ok(line.as_slice() == want)
+}
+
+fn has_same_text(alloc: Global, schema: &Schema, want: &[u8]) -> Result<bool, Memory> {
+    let copy = schema.copy(alloc)?;
+    if !copy.same(schema) {
+        return Ok(false);
+    }
+    has_text(alloc, &copy, want)
 }
 
 /// Whether a schema has this text, and a copy of it too.
 fn is_written(alloc: Global, want: &[u8]) -> Result<bool, Memory> {
     let schema = schema(alloc)?;
-    let copy = schema.copy(alloc)?;
-    let line = copy.text(alloc)?;
-    Ok(copy.same(&schema) && line.as_slice() == want)
+    has_same_text(alloc, &schema, want)
 }
 
 #[test]
