@@ -12,7 +12,7 @@ use Rattle.ur_typed.specs.Resolves.{Statements}
 use Rattle.ur_typed.specs.Typed.{sites_in, updates_in, CountsFrom}
 use Rattle.ur_type_conditions.specs.Scopes.{World}
 use Rattle.ur_typed.specs.Rules.{Sites}
-use Rattle.ur_typing_laws.specs.Judged.{Fills, Numbered}
+use Rattle.ur_typing_laws.specs.Judged.{Fills, AreFilled, Numbered}
 use Rattle.ur_typed.proofs.Shapes.{front_get}
 
 -- ---- numbers in order
@@ -47,12 +47,19 @@ lengths_of_both a b x y i j = length-append a b ∙ (ap₂ (λ u v. u + v) i j �
 joined_rest : {A : Type 0} (x y z xs ys : List A) → y ≡ x ++ xs → z ≡ y ++ ys → z ≡ x ++ (xs ++ ys)
 joined_rest x y z xs ys i j = j ∙ (ap (λ v. v ++ ys) i ∙ append_assoc x xs ys)
 
+pub filled_both : {A : Type 0} (x y : List (Option A)) → AreFilled x → AreFilled y → AreFilled (x ++ y)
+filled_both [] y f g = g
+filled_both (None ∷ x) y f g = absurd f
+filled_both (Some a ∷ x) y f g = filled_both x y f g
+
 pub numbered_none : (st : Sites) → Numbered st [] st
 numbered_none st = record {
   queries = [];
   changes = [];
   all_queries = sym (append-nil st.queries);
   all_changes = sym (append-nil st.changes);
+  filled_queries = tt;
+  filled_changes = tt;
   sites = tt;
   updates = tt;
   how_many_sites = refl;
@@ -65,6 +72,8 @@ numbered_both {st} {su} {sv} {a} {b} x y = record {
   changes = x.changes ++ y.changes;
   all_queries = joined_rest st.queries su.queries sv.queries x.queries y.queries x.all_queries y.all_queries;
   all_changes = joined_rest st.changes su.changes sv.changes x.changes y.changes x.all_changes y.all_changes;
+  filled_queries = filled_both x.queries y.queries x.filled_queries y.filled_queries;
+  filled_changes = filled_both x.changes y.changes x.filled_changes y.filled_changes;
   sites = subst (CountsFrom (length st.queries)) (sym (sites_of_both a b)) (counts_behind st.queries su.queries x.queries (sites_in a) (sites_in b) x.all_queries x.how_many_sites x.sites y.sites);
   updates = subst (CountsFrom (length st.changes)) (sym (updates_of_both a b)) (counts_behind st.changes su.changes x.changes (updates_in a) (updates_in b) x.all_changes x.how_many_updates x.updates y.updates);
   how_many_sites = ap length (sites_of_both a b) ∙ lengths_of_both (sites_in a) (sites_in b) x.queries y.queries x.how_many_sites y.how_many_sites;
@@ -81,6 +90,8 @@ numbered_link n x = record {
   changes = x.changes;
   all_queries = x.all_queries;
   all_changes = x.all_changes;
+  filled_queries = x.filled_queries;
+  filled_changes = x.filled_changes;
   sites = x.sites;
   updates = x.updates;
   how_many_sites = x.how_many_sites;
@@ -93,6 +104,8 @@ numbered_action n x = record {
   changes = x.changes;
   all_queries = x.all_queries;
   all_changes = x.all_changes;
+  filled_queries = x.filled_queries;
+  filled_changes = x.filled_changes;
   sites = x.sites;
   updates = x.updates;
   how_many_sites = x.how_many_sites;

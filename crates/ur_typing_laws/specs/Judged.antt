@@ -1,5 +1,5 @@
 -- What is said of typed expressions.
-use Rattle.std.specs.Prelude.{◌≡◌, ◌++◌, ℕ, true, List, [], ◌∷◌, length, map, Option, Some, slice_get, ⊤}
+use Rattle.std.specs.Prelude.{◌≡◌, ◌++◌, ℕ, true, List, [], ◌∷◌, length, map, Option, Some, None, slice_get, ⊤}
 use Rattle.ur_syntax.specs.Names.{own}
 use Rattle.ur_syntax.specs.HasKind.{HasKind, IsName, scope_in}
 use Rattle.ur_syntax.specs.Kinds.{arrow}
@@ -123,12 +123,20 @@ pub record Fills (w : World) (d : Statements) (st : Sites) : Type 0 where
 abbrev pub stated : Statements → World → World
 stated d w = record w { declared = record w.declared { queries = map (λ q. (q.params, query_row w.fields q)) d.queries; changes = map (λ u. u.params) d.changes } }
 
--- The statements `su` are those before and those of the occurrences, which are numbered in order, none left out.
+-- a statement stands in each place
+abbrev pub AreFilled : {A : Type 0} → List (Option A) → Type 0
+AreFilled [] = ⊤
+AreFilled (None ∷ xs) = ⊥
+AreFilled (Some a ∷ xs) = AreFilled xs
+
+-- The statements `su` are those before and those of the occurrences, which are numbered in order, none left out, and each stands in its place.
 pub record Numbered (st : Sites) (os : List Occurrence) (su : Sites) : Type 0 where
   pub queries : List (Option Query)
   pub changes : List (Option Change)
   pub all_queries : su.queries ≡ st.queries ++ queries
   pub all_changes : su.changes ≡ st.changes ++ changes
+  pub filled_queries : AreFilled queries
+  pub filled_changes : AreFilled changes
   pub sites : CountsFrom (length st.queries) (sites_in os)
   pub updates : CountsFrom (length st.changes) (updates_in os)
   pub how_many_sites : length (sites_in os) ≡ length queries

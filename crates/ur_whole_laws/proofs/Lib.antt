@@ -1,6 +1,6 @@
-mod Distinct
+pub mod Distinct
 mod Queried
-mod Walked
+pub mod Walked
 mod WalkedCalls
 mod WalkedCases
 mod WalkedFolds
@@ -9,4 +9,4 @@ mod WalkedLiterals
 mod WalkedRecords
 mod WalkedStatements
 mod WalkedXml
-mod Whole
+pub mod Whole

@@ -1,0 +1,10 @@
+mod Bodies
+mod Declared
+mod Finding
+mod Going
+mod Larger
+mod Lists
+mod Routes
+mod Unique
+mod Wider
+mod Written
