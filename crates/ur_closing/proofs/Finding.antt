@@ -28,3 +28,6 @@ last_is f (x ∷ xs) y = last_is f xs y
 
 pub last_once : {A B : Type 0} (f : A → B) (xs : List A) (y : A) → IsAbsent (map f xs) (f y) → Different (map f xs) → Different (map f (xs ++ y ∷ []))
 last_once f xs y a d = subst Different (sym (map-append f xs (y ∷ []))) (last_differs (map f xs) (f y) d a)
+
+pub grown_by : {A B : Type 0} (f : A → B) (xs ys : List A) (y : A) → ys ≡ xs ++ y ∷ [] → (more : List B) × (map f ys ≡ map f xs ++ more)
+grown_by f xs ys y e = (f y ∷ [], ap (map f) e ∙ map-append f xs (y ∷ []))

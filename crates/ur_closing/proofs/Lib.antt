@@ -3,3 +3,8 @@ pub mod Once
 pub mod Differ
 pub mod Finding
 pub mod Below
+pub mod NodeEq
+pub mod Keys
+pub mod Sound
+pub mod Standing
+pub mod Viewed

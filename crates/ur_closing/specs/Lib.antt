@@ -1,2 +1,4 @@
 pub mod Held
 pub mod Lists
+pub mod Scopes
+pub mod Closing

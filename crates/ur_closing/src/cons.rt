@@ -1,13 +1,11 @@
 //! The list of closed constructors, each once.
-ghost use Rattle.std.specs.Prelude.{◌≡◌, ◌≤◌, ◌<◌, ◌∷◌, [], ◌++◌, map, length, Some, slice_get, IfOk, OnOk, OnErr, MatchOption};
+ghost use Rattle.std.specs.Prelude.{◌≡◌, ◌≤◌, ◌<◌, ◌++◌, length, Some, slice_get, IfOk, MatchOption};
 ghost use Rattle.ur_meaning.specs.Instances.{Different};
 ghost use Rattle.ur_closing.specs.Lists.{IsAbsent, constructors, most_entries};
 
 use crate::con::{Con, same_con};
+use crate::entries::push;
 use ur_base::{List, Memory};
-
-/// How many entries each list has at most.
-pub const ENTRIES: usize = 4_194_304;
 
 /// The place of a constructor.
 fn place_of(cons: &List<Con>, con: &Con) -> Option<usize>
@@ -20,20 +18,6 @@ fn place_of(cons: &List<Con>, con: &Con) -> Option<usize>
         }
     }
     None
-}
-
-fn push(cons: &mut List<Con>, con: Con) -> Result<u32, Memory>
-    ensures number { IfOk result (λ j. j ≡ length cons.old) }
-    ensures few { length cons.old ≤ most_entries → length cons.new ≤ most_entries }
-    ensures ok { OnOk result (cons.new ≡ cons.old ++ con ∷ []) }
-    ensures err { OnErr result (cons.new ≡ cons.old) }
-{
-    let count = cons.len();
-    if count >= ENTRIES {
-        return Err(Memory);
-    }
-    cons.push(con)?;
-    Ok(count as u32)
 }
 
 /// The number of a constructor, which is added where it is new.

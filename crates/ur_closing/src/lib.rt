@@ -1,12 +1,14 @@
 //! Closed constructors, lambdas of the source and closed static expressions, by number.
 #![tactic(auto)]
 
+mod closing;
 mod con;
 mod cons;
+mod entries;
+mod lambdas;
 mod node;
+mod nodes;
 mod numbers;
 
-pub use con::{Con, same_con, sized};
-pub use cons::{ENTRIES, add_con};
+pub use closing::Closing;
 pub use node::{Field, Lambda, Node, Scope, Step, number_at};
-pub use numbers::fits;
