@@ -1,5 +1,5 @@
 mod Converse
-mod Counted
+pub mod Counted
 mod Explained
 mod ExplainedDecls
 mod ExplainedForms

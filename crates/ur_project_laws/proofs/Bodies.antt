@@ -96,7 +96,7 @@ pub record Carried (app : Typed) (ff : List (List ℕ)) (st : Sites) (rest : Lis
   pub many_queries : length st.queries + length (sites_in (all_occurrences rest)) ≡ length app.queries
   pub many_changes : length st.changes + length (updates_in (all_occurrences rest)) ≡ length app.changes
 
-filling : {app : Typed} {ff : List (List ℕ)} {st : Sites} {rest : List Exp} → Carried app ff st rest → (w : World) → w.fields ≡ ff → Fills w (statements app) st
+pub filling : {app : Typed} {ff : List (List ℕ)} {st : Sites} {rest : List Exp} → Carried app ff st rest → (w : World) → w.fields ≡ ff → Fills w (statements app) st
 filling c w e = record { names = c.names ∙ sym e; queries = c.queries; changes = c.changes }
 
 many : {A : Type 0} (x y xs : List A) (a b both : List ℕ) (n : ℕ) → y ≡ x ++ xs → length a ≡ length xs → both ≡ a ++ b → length x + length both ≡ n → length y + length b ≡ n
@@ -122,7 +122,7 @@ has_body (decl.Val x c e) = true
 has_body (decl.Fun fs) = true
 has_body _ = false
 
-abbrev is_val : DeclForm → Bool
+abbrev pub is_val : DeclForm → Bool
 is_val (decl.Val x c e) = true
 is_val _ = false
 
@@ -154,7 +154,7 @@ pub record ValBody (app : Typed) (f v : ℕ) (ds : List Decl) (g w : ℕ) (bs : 
   pub bodies : AreBodies app f (v + 1) ds g w rest
   pub is : bs ≡ val.body ∷ rest
 
-bodies_val : (app : Typed) (f v : ℕ) (d : Decl) (ds : List Decl) (g w : ℕ) (bs : List Exp) → is_val d.form ≡ true → AreBodies app f v (d ∷ ds) g w bs → ValBody app f v ds g w bs
+pub bodies_val : (app : Typed) (f v : ℕ) (d : Decl) (ds : List Decl) (g w : ℕ) (bs : List Exp) → is_val d.form ≡ true → AreBodies app f v (d ∷ ds) g w bs → ValBody app f v ds g w bs
 bodies_val app f v d ds g w _ j (source.AreBodies.val {m = m} {bodies = bs} i h r) = record { val = m; rest = bs; got = h; bodies = r; is = refl }
 bodies_val app f v d ds g w _ j (source.AreBodies.functions e h r) = absurd (true≢false (sym j ∙ ap is_val e))
 bodies_val app f v d ds g w _ j (source.AreBodies.other k r) = absurd (true≢false (sym j ∙ (no_body d.form k).1))

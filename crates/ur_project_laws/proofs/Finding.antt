@@ -31,17 +31,17 @@ use Rattle.ur_tree.specs.Typing.{Operation, of_two, compares, conses, joins, ope
 
 -- ---- rules over what is known of parts
 
-abbrev Includes : Typing → Typing → Type 0
+abbrev pub Includes : Typing → Typing → Type 0
 Includes P Q = (t : NormalType) → P t → Q t
 
-one_side : (op : Unary) {f g w v : Typing} → Includes f g → Includes w v → (t : NormalType) → OneSide op f w t → OneSide op g v t
+pub one_side : (op : Unary) {f g w v : Typing} → Includes f g → Includes w v → (t : NormalType) → OneSide op f w t → OneSide op g v t
 one_side unary.Neg i j t x = (x.0, j ty.Int x.1)
 one_side unary.Not i j t x = (x.0, j ty.Bool x.1)
 one_side unary.Show i j t x = (x.0, (x.1.0, i x.1.0 x.1.1, x.1.2))
 one_side unary.Present i j t x = (x.0, x.1, i x.0 x.2)
 one_side unary.Return i j t x = (x.0, x.1, i x.0 x.2)
 
-two_sides : (o : Operation) (known : Assumptions) {fa ga wa va fb gb wb vb : Typing} → Includes fa ga → Includes wa va → Includes fb gb → Includes wb vb → (t : NormalType) → TwoSides o known fa wa fb wb t → TwoSides o known ga va gb vb t
+pub two_sides : (o : Operation) (known : Assumptions) {fa ga wa va fb gb wb vb : Typing} → Includes fa ga → Includes wa va → Includes fb gb → Includes wb vb → (t : NormalType) → TwoSides o known fa wa fb wb t → TwoSides o known ga va gb vb t
 two_sides (of_two u v) known i j k l t x = (x.0, j u x.1, l u x.2)
 two_sides (compares test) known i j k l t x = (x.0, (x.1.0, i x.1.0 x.1.1, x.1.2, l x.1.0 x.1.3))
 two_sides conses known i j k l t x = (x.0, x.1, i x.0 x.2, l (list_of x.0) x.3)
@@ -54,24 +54,24 @@ applies : (d : Declared) (most more : ℕ) → most ≤ more → (env : Env) (c 
 applies d most more l env (Some c) static i k t x = (x.0, x.1, x.2, at_most _ most more x.3 l, x.4, k (map (λ p. instance_type c.1 p.of) x.0.params) x.5, x.6)
 applies d most more l env None static i k t x = (x.0, i x.0 x.1, k (parameters x.0).0 x.2, x.3)
 
-literal : (known : Assumptions) (framed : Sort → Bool) {f g : Place → List Part → Type 0} → ((p : Place) (r : List Part) → f p r → g p r) → (t : NormalType) → Literal known framed f t → Literal known framed g t
+pub literal : (known : Assumptions) (framed : Sort → Bool) {f g : Place → List Part → Type 0} → ((p : Place) (r : List Part) → f p r → g p r) → (t : NormalType) → Literal known framed f t → Literal known framed g t
 literal known framed k t x = (x.0, x.1, x.2, x.3, k (place_of x.0) x.1 x.4, x.5)
 
-splice_at : (p : Place) (b : Bool) {f g w v : Typing} → Includes f g → Includes w v → (r : List Part) → SpliceAt p b f w r → SpliceAt p b g v r
+pub splice_at : (p : Place) (b : Bool) {f g w v : Typing} → Includes f g → Includes w v → (r : List Part) → SpliceAt p b f w r → SpliceAt p b g v r
 splice_at places.in_form false i j r x = (x.0, i x.0 x.1, x.2)
 splice_at places.in_form true i j r x = (j ty.Xbody x.0, x.1)
 splice_at places.in_fields false i j r x = (x.0, i x.0 x.1, x.2)
 splice_at places.in_fields true i j r x = (j ty.Xbody x.0, x.1)
 splice_at _ b i j r x = (x.0, x.1, j x.0 x.2, x.3)
 
-element_at : (known : Assumptions) (p : Place) (g : Tag) {f h : Place → List Part → List Part → Type 0} → ((q : Place) (r s : List Part) → f q r s → h q r s) → (r own : List Part) → ElementAt known p g f r own → ElementAt known p g h r own
+pub element_at : (known : Assumptions) (p : Place) (g : Tag) {f h : Place → List Part → List Part → Type 0} → ((q : Place) (r s : List Part) → f q r s → h q r s) → (r own : List Part) → ElementAt known p g f r own → ElementAt known p g h r own
 element_at known p tag.Form k r own x = (x.0, (x.1.0, k places.in_form x.1.0 x.1.0 x.1.1, x.1.2), x.2)
 element_at known p _ k r own x = (x.0, x.1, k x.0 own r x.2)
 
 pub accepts : (most more : ℕ) → most ≤ more → (e : Exp) (t : NormalType) → Accepts most e t → Accepts more e t
 accepts most more l e t x = (at_most _ most more x.0 l, x.1, x.2)
 
-by_rule : (b : Bool) {P Q R S : Type 0} → (P → R) → (Q → S) → ByRule b P Q → ByRule b R S
+pub by_rule : (b : Bool) {P Q R S : Type 0} → (P → R) → (Q → S) → ByRule b P Q → ByRule b R S
 by_rule true f g x = f x
 by_rule false f g x = g x
 

@@ -1,10 +1,10 @@
-mod Bodies
-mod Declared
-mod Finding
-mod Going
-mod Larger
-mod Lists
-mod Routes
-mod Unique
-mod Wider
-mod Written
+pub mod Bodies
+pub mod Declared
+pub mod Finding
+pub mod Going
+pub mod Larger
+pub mod Lists
+pub mod Routes
+pub mod Unique
+pub mod Wider
+pub mod Written

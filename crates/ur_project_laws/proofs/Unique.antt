@@ -35,7 +35,7 @@ use Rattle.ur_project_laws.proofs.Routes.{NameBefore, names_turn, SameTold, one_
 
 -- ---- names
 
-abbrev IsSource : ℕ → List (List ℕ) → List Module → Option Signature → Typed → Type 0
+abbrev pub IsSource : ℕ → List (List ℕ) → List Module → Option Signature → Typed → Type 0
 IsSource most names modules signature app = IsTypedWithin most names modules signature app
 
 one_names : (most : ℕ) (names : List (List ℕ)) (modules : List Module) (signature : Option Signature) (a b : Typed) → IsSource most names modules signature a → IsSource most names modules signature b → a.names ≡ b.names
@@ -73,7 +73,7 @@ same_declared most names modules signature a b x y =
       tables = x.tables ∙ (ap (λ z. z.globals.tables.tables) s.same ∙ sym y.tables);
     }
 
-heads_of : (fs : List Function) → map (λ h. h.head) (map headed fs) ≡ map head_of fs
+pub heads_of : (fs : List Function) → map (λ h. h.head) (map headed fs) ≡ map head_of fs
 heads_of [] = refl
 heads_of (f ∷ fs) = ap (λ z. head_of f ∷ z) (heads_of fs)
 
@@ -98,7 +98,7 @@ record SameBodies (a b : Typed) (xs ys : List Exp) : Type 0 where
   queries : a.queries ≡ b.queries
   changes : a.changes ≡ b.changes
 
-abbrev no_statement : Sites
+abbrev pub no_statement : Sites
 no_statement = record { queries = []; changes = [] }
 
 from_nothing : (n : ℕ) {m : ℕ} → n ≡ m → 0 + n ≡ m
@@ -107,7 +107,7 @@ from_nothing n h = omega (arith, h)
 no_more : {A : Type 0} (n : ℕ) (a : A) → slice_get [] n ≡ Some a → ⊥
 no_more n a h = cc
 
-at_start : (most : ℕ) (names : List (List ℕ)) (modules : List Module) (signature : Option Signature) (app : Typed) (ff : List (List ℕ)) → app.names ≡ ff → (x : IsSource most names modules signature app) → Carried app ff no_statement x.bodies
+pub at_start : (most : ℕ) (names : List (List ℕ)) (modules : List Module) (signature : Option Signature) (app : Typed) (ff : List (List ℕ)) → app.names ≡ ff → (x : IsSource most names modules signature app) → Carried app ff no_statement x.bodies
 at_start most names modules signature app ff e x = record {
   names = e;
   queries = λ n q h. absurd (no_more n (Some q) h);

@@ -1,0 +1,6 @@
+mod Declaring
+mod Known
+mod Narrow
+mod Narrower
+mod Projects
+mod Walking
