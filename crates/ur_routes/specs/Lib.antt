@@ -1,0 +1,5 @@
+pub mod Aims
+pub mod Entries
+pub mod Forms
+pub mod Routes
+pub mod Words
