@@ -1,0 +1,10 @@
+pub mod Values
+pub mod Labels
+pub mod Numbered
+pub mod Keeping
+pub mod Stepping
+pub mod Equations
+pub mod Fields
+pub mod Arms
+pub mod Changes
+pub mod Turning
