@@ -1,6 +1,0 @@
-mod Declaring
-mod Known
-mod Narrow
-mod Narrower
-mod Projects
-mod Walking

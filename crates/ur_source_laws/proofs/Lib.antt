@@ -1,0 +1,6 @@
+mod Among
+mod Bodying
+mod Counting
+mod Given
+mod Made
+mod Standing
