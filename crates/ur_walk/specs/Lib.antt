@@ -1,0 +1,11 @@
+pub mod Aiming
+pub mod Applying
+pub mod Binding
+pub mod Embedding
+pub mod Folding
+pub mod Listed
+pub mod Marking
+pub mod Promises
+pub mod Records
+pub mod Sided
+pub mod Splicing
