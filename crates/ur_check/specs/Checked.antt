@@ -1,0 +1,33 @@
+-- A source is the checked one of a project.
+use Rattle.std.specs.Prelude.{◌≡◌, ◌≢◌, ◌↔◌, ℕ, IsTrue, List, Option, Some, None, Contains, AllPairs}
+use Rattle.ur_syntax.specs.declared.decl.Module.{Module}
+use Rattle.ur_syntax.specs.declared.decl.Signature.{Signature}
+use Rattle.ur_names.specs.Faults.{fault_of}
+use Rattle.ur_kinded.specs.Faults.{ProjectIsKinded}
+use Rattle.ur_rows.specs.Order.{is_not_after}
+use Rattle.ur_type_words.specs.FieldNames.{of_modules}
+use Rattle.ur_tree.specs.declared.typed.Typed.{Typed}
+use Rattle.ur_typed.specs.Typed.{nothing_declared}
+use Rattle.ur_typed.specs.Declaring.{Checked, nothing_yet, project_out}
+use Rattle.ur_checked.specs.Made.{IsMadeOf}
+
+-- the names of fields that occur in the project, by their bytes, each once
+pub record AreFieldNames (modules : List Module) (names : List (List ℕ)) : Type 0 where
+  pub occur : (x : List ℕ) → Contains names x ↔ Contains (of_modules modules) x
+  pub rise : AllPairs (λ a b. IsTrue (is_not_after a b) × (a ≢ b)) names
+
+-- before the first module, the names of fields being known
+abbrev pub begun : List (List ℕ) → Checked
+begun fields = nothing_yet (nothing_declared fields)
+
+-- The project's names are in scope, none is given twice where once is allowed, each written constructor has the kind that its
+-- place wants, its declarations, bodies and signature are typed, no normal form having more than `most` nodes, and `app` is put
+-- together of them.
+pub record IsChecked (most : ℕ) (names : List (List ℕ)) (modules : List Module) (signature : Option Signature) (app : Typed) : Type 0 where
+  pub named : fault_of names modules signature ≡ None
+  pub kinded : ProjectIsKinded names modules signature
+  pub behind : Checked
+  pub entries : List ℕ
+  pub typed : project_out most (begun app.names) names modules signature ≡ Some (behind, entries)
+  pub made : IsMadeOf names behind entries app
+  pub fields : AreFieldNames modules app.names
