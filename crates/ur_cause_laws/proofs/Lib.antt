@@ -1,5 +1,5 @@
 mod Converse
-pub mod Counted
+mod Counted
 mod Explained
 mod ExplainedDecls
 mod ExplainedForms
