@@ -17,7 +17,7 @@ use Rattle.ur_disjoint.proofs.Members.{In, contains-in}
 use Rattle.ur_tree.specs.declared.exp.Branch.{Branch}
 use Rattle.ur_tree.specs.declared.typed.Variant.{Variant}
 use Rattle.ur_tree.specs.Heads.{Declared}
-use Rattle.ur_tree.specs.Patterns.{same_pattern, last_is_any, has_all, constructors_of, tags_from}
+use Rattle.ur_tree.specs.Patterns.{same_pattern, last_is_any, are_some, has_all, constructors_of, tags_from}
 use Rattle.ur_type_conditions.specs.Tests.{all_pairs, are_once}
 use Rattle.ur_type_conditions.specs.Scopes.{World}
 use Rattle.ur_type_rules.specs.Faults.{mismatch}
@@ -28,7 +28,7 @@ use Rattle.ur_scopes.specs.declared.names.Named.{Named}
 use Rattle.ur_scopes.specs.Views.{name_in, names_onto, names_in, itself}
 use Rattle.ur_scopes.proofs.Loops.{drop-here}
 use Rattle.ur_cases.specs.Binding.{variants_in}
-use Rattle.ur_cases.specs.Covering.{patterns_in, first_missing, missing_of, tag_is_missing}
+use Rattle.ur_cases.specs.Covering.{patterns_in, first_missing, or_any, missing_of, tag_is_missing}
 
 -- ---- the latest constructor with a number
 
@@ -68,14 +68,31 @@ missing-not-all [] ps c i h = absurd i
 missing-not-all (d ∷ cs) ps c (inl e) h = ap (λ z. z && list_all (λ c. list_any (same_pattern c) ps) cs) (ap (λ z. list_any (same_pattern z) ps) e ∙ h)
 missing-not-all (d ∷ cs) ps c (inr i) h = ap (λ z. list_any (same_pattern d) ps && z) (missing-not-all cs ps c i h) ∙ never-both (list_any (same_pattern d) ps)
 
+-- where nothing is missing there is a branch
+some-branch : (ps : List Pattern) (o : Option Pattern) → or_any ps o ≡ None → (are_some ps ≡ true) × (o ≡ None)
+some-branch [] None h = absurd (cc)
+some-branch [] (Some c) h = absurd (cc)
+some-branch (p ∷ ps) o h = (refl, h)
+
+-- a constructor that is missing, or any value
+pub or-any-some : (ps : List Pattern) (c : Pattern) → or_any ps (Some c) ≡ Some c
+or-any-some [] c = refl
+or-any-some (p ∷ ps) c = refl
+
+-- of two constructors one is missing where there is no branch
+pub two-missing : (ps : List Pattern) (c d : Pattern) → missing_of (Some (c ∷ d ∷ [])) ps ≡ first_missing (c ∷ d ∷ []) ps
+two-missing [] c d = refl
+two-missing (p ∷ ps) c d = refl
+
 -- the constructors that a type has are all there where none is missing
 pub all-there : (cs : Option (List Pattern)) (ps : List Pattern) → missing_of cs ps ≡ None → has_all cs ps ≡ true
 all-there None ps h = absurd (cc)
-all-there (Some cs) ps h = missing-none cs ps h
+all-there (Some cs) ps h = let r : (are_some ps ≡ true) × (first_missing cs ps ≡ None) = some-branch ps (first_missing cs ps) h in ap (λ z. z && list_all (λ c. list_any (same_pattern c) ps) cs) r.0 ∙ missing-none cs ps r.1
 
 pub not-all : (cs : Option (List Pattern)) (ps : List Pattern) (c : Pattern) → missing_of cs ps ≡ Some c → has_all cs ps ≡ false
 not-all None ps c h = refl
-not-all (Some cs) ps c h = let r : In c cs × (list_any (same_pattern c) ps ≡ false) = missing-some cs ps c h in missing-not-all cs ps c r.0 r.1
+not-all (Some cs) [] c h = refl
+not-all (Some cs) (p ∷ ps) c h = let r : In c cs × (list_any (same_pattern c) (p ∷ ps) ≡ false) = missing-some cs (p ∷ ps) c h in missing-not-all cs (p ∷ ps) c r.0 r.1
 
 -- ---- the constructors of a type
 
@@ -182,7 +199,9 @@ repeats-there bs i b h e f = subst (λ z. IsRepeated (patterns_in bs) z.pattern)
 
 missing-by : (w : World) (u : NormalType) (ps : List Pattern) (c : Pattern) (o : Option (List Pattern)) → constructors_of w.declared u ≡ o → missing_of o ps ≡ Some c → IsMissing w u ps (called w c)
 missing-by w u ps c None e h = subst (λ z. IsMissing w u ps (called w z)) (one-is pattern.Any c h) (patterns.any e)
-missing-by w u ps c (Some cs) e h = let r : In c cs × (list_any (same_pattern c) ps ≡ false) = missing-some cs ps c h in patterns.constructor e (contains-in c cs r.0) r.1
+missing-by w u [] c (Some []) e h = subst (λ z. IsMissing w u [] (called w z)) (one-is pattern.Any c h) (patterns.nothing e refl)
+missing-by w u [] c (Some (d ∷ cs)) e h = let r : In c (d ∷ cs) × (list_any (same_pattern c) [] ≡ false) = missing-some (d ∷ cs) [] c h in patterns.constructor e (contains-in c (d ∷ cs) r.0) r.1
+missing-by w u (p ∷ ps) c (Some cs) e h = let r : In c cs × (list_any (same_pattern c) (p ∷ ps) ≡ false) = missing-some cs (p ∷ ps) c h in patterns.constructor e (contains-in c cs r.0) r.1
 
 pub missing-told : (w : World) (u : NormalType) (ps : List Pattern) (c : Pattern) → missing_of (constructors_of w.declared u) ps ≡ Some c → IsMissing w u ps (called w c)
 missing-told w u ps c h = missing-by w u ps c (constructors_of w.declared u) refl h
@@ -260,3 +279,7 @@ pub ruleset datatypes = (missing-past, missing-here, missing-end)
 pub ruleset repeating = (once-past)
 
 pub ruleset lasts = (last-is, truth-called)
+
+pub ruleset two_missing = (two-missing)
+
+pub ruleset any_value = (or-any-some)

@@ -79,6 +79,10 @@ one_lacks = refl
 one_twice : covers kinds (ty.Datatype 0) (pattern.Tagged 1 ∷ pattern.Tagged 0 ∷ pattern.Tagged 1 ∷ []) ≡ false
 one_twice = refl
 
+-- without branches nothing is covered, also where there is no constructor
+none_cover : covers kinds (ty.Datatype 1) [] ≡ false
+none_cover = refl
+
 -- a `_` covers what lacks where it is the last, and not before another pattern
 any_last : covers kinds ty.Int (pattern.Int (pos 1) ∷ pattern.Any ∷ []) ≡ true
 any_last = refl

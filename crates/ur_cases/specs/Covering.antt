@@ -15,10 +15,16 @@ abbrev pub first_missing : List Pattern → List Pattern → Option Pattern
 first_missing [] ps = None
 first_missing (c ∷ cs) ps = if list_any (same_pattern c) ps then first_missing cs ps else Some c
 
+-- what is missing where this is known of the constructors: without branches any value is
+abbrev pub or_any : List Pattern → Option Pattern → Option Pattern
+or_any [] None = Some pattern.Any
+or_any [] (Some c) = Some c
+or_any (p ∷ ps) found = found
+
 -- the same of the constructors of a type, of which a `case` may not be able to have all
 abbrev pub missing_of : Option (List Pattern) → List Pattern → Option Pattern
 missing_of None ps = Some pattern.Any
-missing_of (Some cs) ps = first_missing cs ps
+missing_of (Some cs) ps = or_any ps (first_missing cs ps)
 
 abbrev pub tag_is_missing : ℕ → ℕ → ℕ × Option NormalType → List Pattern → Bool
 tag_is_missing d n v ps = (v.0 == d) && not (list_any (same_pattern (pattern.Tagged n)) ps)

@@ -1,5 +1,5 @@
 //! Whether the branches of a `case` cover a type.
-ghost use Rattle.std.specs.Prelude.{◌≡◌, ◌==◌, ◌+◌, ◌||◌, true, false, [], ◌∷◌, codes, IfOk, OnOk, MatchOption, if◌then◌else◌};
+ghost use Rattle.std.specs.Prelude.{◌≡◌, ◌==◌, ◌+◌, ◌||◌, true, false, [], ◌∷◌, Some, codes, IfOk, OnOk, MatchOption, if◌then◌else◌};
 ghost use Rattle.std.specs.List.{list_any};
 ghost use Rattle.std.specs.Fmt.{signed_decimal};
 ghost use Rattle.ur_base.specs.Stopping.{IfRefused};
@@ -9,7 +9,7 @@ ghost use Rattle.ur_type_conditions.specs.Tests.{covers, are_once};
 ghost use Rattle.ur_type_rules.specs.Patterns.{called, constructor_name, BreaksCover, IsRepeated};
 ghost use Rattle.ur_scopes.specs.Views.{declared_in, world_in, names_in, itself, Refuses};
 ghost use Rattle.ur_cases.specs.Binding.{variants_in};
-ghost use Rattle.ur_cases.specs.Covering.{patterns_in, first_missing, missing_of, tag_is_missing};
+ghost use Rattle.ur_cases.specs.Covering.{patterns_in, first_missing, or_any, missing_of, tag_is_missing};
 
 use crate::alike::{is_any, same_pattern};
 use std::alloc::Global;
@@ -154,9 +154,25 @@ fn last_is_any(branches: &[Branch]) -> bool
     }
 }
 
+/// What is missing, or any value where there is no branch.
+fn or_any(branches: &[Branch], found: Option<Pattern>) -> Option<Pattern>
+    ensures { result ≡ or_any (patterns_in branches.now) found }
+{
+    match found {
+        Some(pattern) => Some(pattern),
+        None => {
+            if branches.is_empty() {
+                return Some(Pattern::Any);
+            }
+            None
+        }
+    }
+}
+
 /// The first of two patterns that no branch has.
+#[tactic(auto, using(crate::proofs::Chosen::two_missing))]
 fn missing_of_two(branches: &[Branch], first: Pattern, second: Pattern) -> Option<Pattern>
-    ensures { result ≡ first_missing (first ∷ second ∷ []) (patterns_in branches.now) }
+    ensures { result ≡ missing_of (Some (first ∷ second ∷ [])) (patterns_in branches.now) }
 {
     if !has(branches, &first) {
         return Some(first);
@@ -201,7 +217,7 @@ fn missing_of_datatype(
     Ok(None)
 }
 
-/// The first constructor of the type that no branch has, or any value where a `case` cannot have all of them.
+/// The first constructor of the type that no branch has, or any value where a `case` cannot have all of them, or has no branch.
 #[tactic(auto, using(crate::proofs::Chosen::constructors))]
 fn missing(world: &World, of: &NormalType, branches: &[Branch]) -> Result<Option<Pattern>, Memory>
     ensures { IfOk result (λ found. found ≡ missing_of (constructors_of (declared_in world.now) of.now) (patterns_in branches.now)) }
@@ -212,7 +228,7 @@ fn missing(world: &World, of: &NormalType, branches: &[Branch]) -> Result<Option
         NormalType::Many(_) => Ok(missing_of_two(branches, Pattern::Empty, Pattern::Cons)),
         NormalType::Datatype(d) => {
             let found = missing_of_datatype(world.variants.as_slice(), branches, *d)?;
-            Ok(found)
+            Ok(or_any(branches, found))
         }
         NormalType::Int => Ok(Some(Pattern::Any)),
         NormalType::Str => Ok(Some(Pattern::Any)),

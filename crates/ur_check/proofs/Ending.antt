@@ -18,7 +18,8 @@ use Rattle.ur_heads.specs.Views.{Sees}
 use Rattle.ur_checked.specs.Made.{IsMadeOf}
 use Rattle.ur_check.specs.declared.bodies.Bodies.{Bodies as HeldBodies}
 use Rattle.ur_check.specs.Views.{bodies_in, AddsModules, EntersAll, ProjectFaults, Resolves}
-use Rattle.ur_check.specs.Checked.{AreFieldNames, begun, IsChecked}
+use Rattle.ur_checked.specs.Source.{AreFieldNames, begun, IsChecked, IsSourceWithin}
+use Rattle.ur_sound_laws.specs.Sound.{CheckedIsTyped}
 use Rattle.ur_check.specs.Refused.{HasCause, by_name}
 use Rattle.ur_check.proofs.Counting.{modules-keep}
 
@@ -56,6 +57,10 @@ checked names fields modules signature app named kinded are_fields found = recor
   made = found.made;
   fields = subst (AreFieldNames modules) (sym found.kept) are_fields;
 }
+
+-- what is checked is the source by the rules
+pub is-source : (names : List (List ℕ)) (modules : List Module) (signature : Option Signature) (app : Typed) → CheckedIsTyped → length names ≡ length modules → IsChecked 65536 names modules signature app → IsSourceWithin 65536 names modules signature app
+is-source names modules signature app law l i = record { named = i.named; kinded = i.kinded; typed = law 65536 names modules signature app l i }
 
 -- ---- faults of types
 

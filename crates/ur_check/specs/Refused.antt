@@ -1,4 +1,4 @@
--- Why a project has no checked source: the first fault of its names, or else of its kinds, or else of its types.
+-- Why a project has no source: the first fault of its names, or else of its kinds, or else of its types.
 use Rattle.std.specs.Prelude.{◌≡◌, ℕ, List, Option, Some, None}
 use Rattle.ur_base.specs.declared.refusal.Refusal.{Refusal}
 use Rattle.ur_syntax.specs.declared.decl.Module.{Module}
@@ -7,7 +7,7 @@ use Rattle.ur_names.specs.Faults.{Fault, fault_of, Tells}
 use Rattle.ur_kinded.specs.Faults.{ProjectIsKinded, KindFault}
 use Rattle.ur_tree.specs.declared.typed.Typed.{Typed}
 use Rattle.ur_typed.specs.DeclFaults.{ProjectHasFault}
-use Rattle.ur_check.specs.Checked.{AreFieldNames, begun, IsChecked}
+use Rattle.ur_checked.specs.Source.{AreFieldNames, begun, IsSourceWithin}
 
 pub data HasCause (most : ℕ) (names : List (List ℕ)) (modules : List Module) (signature : Option Signature) (r : Refusal) : Type 0 where
   by_name : {f : Fault} → fault_of names modules signature ≡ Some f → Tells r f → HasCause most names modules signature r
@@ -15,7 +15,7 @@ pub data HasCause (most : ℕ) (names : List (List ℕ)) (modules : List Module)
   by_type : {fields : List (List ℕ)} → fault_of names modules signature ≡ None → ProjectIsKinded names modules signature → AreFieldNames modules fields →
       ProjectHasFault most (begun fields) names modules signature r → HasCause most names modules signature r
 
--- a project that is refused has no checked source
+-- a project that is refused has no source within the limit
 abbrev pub CausedIsNone : Type 0
 CausedIsNone = (most : ℕ) (names : List (List ℕ)) (modules : List Module) (signature : Option Signature) (r : Refusal) (app : Typed) →
-    HasCause most names modules signature r → IsChecked most names modules signature app → ⊥
+    HasCause most names modules signature r → IsSourceWithin most names modules signature app → ⊥

@@ -29,7 +29,7 @@ use Rattle.ur_checked.specs.Routing.{AreRoutes}
 use Rattle.ur_routes.specs.declared.routes.Routes.{Routes}
 use Rattle.ur_tree.specs.declared.typed.Typed.{Typed}
 use Rattle.ur_check.specs.declared.bodies.Bodies.{Bodies as HeldBodies}
-use Rattle.ur_check.specs.Checked.{begun}
+use Rattle.ur_checked.specs.Source.{begun}
 
 abbrev pub bodies_in : HeldBodies → Bodies
 bodies_in b = record { functions = b.functions; vals = b.vals; sites = sites_in b.sites }

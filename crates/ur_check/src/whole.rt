@@ -3,7 +3,7 @@ ghost use Rattle.std.specs.Prelude.{◌≡◌, length, IfOk, OnOk};
 ghost use Rattle.std.specs.Option.{option_copied};
 ghost use Rattle.ur_base.specs.Stopping.{IfRefused};
 ghost use Rattle.ur_typed.specs.DeclFaults.{ProjectHasFault};
-ghost use Rattle.ur_check.specs.Checked.{begun, IsChecked};
+ghost use Rattle.ur_checked.specs.Source.{begun, IsSourceWithin};
 ghost use Rattle.ur_check.specs.Refused.{HasCause};
 ghost use Rattle.ur_check.specs.Views.{SeesSome, AddsModules, EntersAll, ProjectFaults, Resolves};
 
@@ -17,6 +17,7 @@ use ur_heads::{Project, nothing_declared};
 use ur_kinded::check_kinds;
 use ur_names::check_names;
 use ur_routes::entries;
+use ur_sound_laws::checked_is_typed;
 use ur_syntax::{Module, Signature};
 use ur_tree::Typed;
 
@@ -59,7 +60,7 @@ fn typed_source(
     Ok(app)
 }
 
-/// The checked source of a project, whose modules have these names; or else why there is none: E07 and E08 by its names, E09 by
+/// The typed source of a project, whose modules have these names; or else why there is none: E07 and E08 by its names, E09 by
 /// its kinds, and then those of its types.
 pub fn check(
     alloc: Global,
@@ -68,12 +69,13 @@ pub fn check(
     signature: Option<&Signature>,
 ) -> Result<Typed, Stop>
     requires { length names.now ≡ length modules.now }
-    ensures checked { IfOk result (IsChecked 65536 names.now modules.now (option_copied signature.entry)) }
+    ensures source { IfOk result (IsSourceWithin 65536 names.now modules.now (option_copied signature.entry)) }
     ensures refused { IfRefused result (HasCause 65536 names.now modules.now (option_copied signature.entry)) }
 {
     check_names(alloc, names, modules, signature)?;
     check_kinds(alloc, names, modules, signature)?;
     let fields = field_names(alloc, modules)?;
     let app = typed_source(alloc, names, modules, signature, fields)?;
+    checked_is_typed();
     Ok(app)
 }

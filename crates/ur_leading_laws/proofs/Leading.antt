@@ -27,17 +27,18 @@ use Rattle.ur_tree.specs.declared.exp.Param.{Param}
 use Rattle.ur_tree.specs.Heads.{Declared}
 use Rattle.ur_type_conditions.specs.Names.{Local, Globals, declared, local_at, name_of}
 use Rattle.ur_type_conditions.specs.Names as here
-use Rattle.ur_type_conditions.specs.Scopes.{World, Scope, Mode, finds, wants}
+use Rattle.ur_type_conditions.specs.Scopes.{World, Scope, Mode, finds, wants, within_branch}
 use Rattle.ur_rows.specs.Normal.{nf}
 use Rattle.ur_rows.specs.Types.{is_value_type, at_row}
 use Rattle.ur_tree.specs.Typing.{step_row}
+use Rattle.ur_tree.specs.Patterns.{bound_by}
 use Rattle.ur_type_conditions.specs.Tests.{are_distinct, are_params}
 use Rattle.ur_typed.specs.Resolves.{is_head}
-use Rattle.ur_typed.specs.Rules.{Sites, Out, Walk, declared_out, local_or, var_out, member_out, function_out, as_function_number, if_unbound, function_named, with_argument, without_arguments, function_at, tagged_out, Capital, says_true, says_false, says_none, says_other, capital_of, by_capital, constructor_out, member_constructor_out, if_other, tag_named, args_out, named_call, built, by_head, applied, one_out, show_out, some_out, return_out, error_out, sides_out, if_out, Branches, branch_out, case_out, let_with, let_out, bind_out, lambda_with, lambda_out, Fields, field_out, record_out, project_out, cut_out, next_out, cookie_at, get_cookie_out, set_cookie_out, Antiquotes, antiquote_out, write_out, ask_out, each_out, row_body}
+use Rattle.ur_typed.specs.Rules.{Sites, Out, Walk, declared_out, local_or, var_out, member_out, function_out, as_function_number, if_unbound, function_named, with_argument, without_arguments, function_at, tagged_out, Capital, says_true, says_false, says_none, says_other, capital_of, by_capital, constructor_out, member_constructor_out, if_other, tag_named, args_out, named_call, built, by_head, applied, one_out, show_out, some_out, return_out, error_out, sides_out, if_out, Branches, no_branches, with_branch, branch_within, branch_by, branch_out, case_out, let_with, let_out, bind_out, lambda_with, lambda_out, Fields, field_out, record_out, project_out, cut_out, next_out, cookie_at, get_cookie_out, set_cookie_out, Antiquotes, antiquote_out, write_out, ask_out, each_out, row_body}
 use Rattle.ur_typed.specs.Folds.{step_of, step_fits, step_out, fold_out}
-use Rattle.ur_type_rules.specs.Rules.{if_so, pattern_of, tag_pattern, binder_local, bound_in, written_type, Params, params_out}
+use Rattle.ur_type_rules.specs.Rules.{if_so, pattern_of, tag_pattern, binder_local, if_as_many, bound_in, written_type, Params, params_out}
 use Rattle.ur_type_rules.proofs.Options.{some_of, some_none, then_some, opened, opened_if, mapped}
-use Rattle.ur_leading_laws.specs.Led.{Leads, a_world, Agree}
+use Rattle.ur_leading_laws.specs.Led.{Leads, a_world, AreBound, Agree}
 
 -- ---- options
 
@@ -59,6 +60,12 @@ pub then_known : {A B : Type 0} {f g : A → Option B} (a : Option A) → ((x : 
 then_known {A = A} {B = B} {f = f} {g = g} a k = record { on = λ y e. by_parts y (opened f a y e) } where
   by_parts : (y : B) → ((x : A) × (a ≡ Some x) × (f x ≡ Some y)) → option_and_then g a ≡ Some y
   by_parts y i = then_some g a i.0 (Some y) i.1 ((k i.0 i.1).on y i.2)
+
+-- the same where the further answers are asked of the first one alone
+pub then_both : {A B : Type 0} {f g : A → Option B} {a b : Option A} → Leads a b → ((x : A) → a ≡ Some x → Leads (f x) (g x)) → Leads (option_and_then f a) (option_and_then g b)
+then_both {A = A} {B = B} {f = f} {g = g} {a = a} {b = b} h k = record { on = λ y e. by_parts y (opened f a y e) } where
+  by_parts : (y : B) → ((x : A) × (a ≡ Some x) × (f x ≡ Some y)) → option_and_then g b ≡ Some y
+  by_parts y i = then_some g b i.0 (Some y) (h.on i.0 i.1) ((k i.0 i.1).on y i.2)
 
 pub map_leads : {A B : Type 0} (f : A → B) {a b : Option A} → Leads a b → Leads (option_map f a) (option_map f b)
 map_leads {A = A} {B = B} f {a = a} {b = b} h = record { on = λ y e. by_parts y (mapped f a y e) } where
@@ -285,8 +292,32 @@ module _ (g : Globals) (ff : List (List ℕ)) (most : ℕ) (d e : Declared) (k :
   pub branch_leads : (s : Scope) (u : NormalType) (st : Sites) (m : Mode) (p : PatForm) (a b : Walk) (r q : Sites → Mode → Option Branches) → WalkLeads a b → ((su : Sites) (n : Mode) → Leads (r su n) (q su n)) → Leads (branch_out v s u st m p a r) (branch_out w s u st m p b q)
   branch_leads s u st m p a b r q h i = then_known (pattern_of g p) (λ y l. if_leads _ (then_leads (pattern_leads u p y l) (λ bound. then_leads (h.on _ st m) (λ o. map_leads _ (i o.sites _)))))
 
-  pub case_leads : (s : Scope) (st : Sites) (m : Mode) (a b : Walk) (r q : NormalType → Sites → Mode → Option Branches) → WalkLeads a b → ((u : NormalType) (su : Sites) (n : Mode) → Leads (r u su n) (q u su n)) → Leads (case_out v s st m a r) (case_out w s st m b q)
-  case_leads s st m a b r q h i = then_leads (h.on s st finds) (λ x. then_leads (i x.of x.sites m) (λ y. test_leads _ _ _ (k.covers x.of y.patterns)))
+  -- the patterns of branches that are resolved stand for values of the type
+  abbrev pub BranchesBind : NormalType → Option Branches → Type 0
+  BranchesBind u o = (b : Branches) → o ≡ Some b → AreBound d u b.patterns
+
+  pub no_branches_bind : (u : NormalType) (st : Sites) (m : Mode) → BranchesBind u (no_branches st m)
+  no_branches_bind u st finds b h = absurd (some_none (sym h))
+  no_branches_bind u st (wants t) b h = subst (λ z. AreBound d u z.patterns) (some_of h) tt
+
+  one_branch_binds : (s : Scope) (u : NormalType) (st : Sites) (m : Mode) (a : Walk) (r : Sites → Mode → Option Branches) (q : List Local × Pattern) (bound more : List NormalType) → ((su : Sites) (n : Mode) → BranchesBind u (r su n)) → bound_by d u q.1 ≡ Some bound →
+      BranchesBind u (branch_within v s st m a r q more)
+  one_branch_binds s u st m a r q bound more i l b h =
+      let o = opened (λ (o : Out). option_map (with_branch q.1 o) (r o.sites (wants o.of))) (a (within_branch q.0 more s) st m) b h in
+      let n = mapped (with_branch q.1 o.0) (r o.0.sites (wants o.0.of)) b o.2 in
+      subst (λ z. AreBound d u z.patterns) n.2 ((bound, l), i o.0.sites (wants o.0.of) n.0 n.1)
+
+  pub branch_binds : (s : Scope) (u : NormalType) (st : Sites) (m : Mode) (p : PatForm) (a : Walk) (r : Sites → Mode → Option Branches) → ((su : Sites) (n : Mode) → BranchesBind u (r su n)) → BranchesBind u (branch_out v s u st m p a r)
+  branch_binds s u st m p a r i b h =
+      let q = opened (branch_by v s u st m a r) (pattern_of g p) b h in
+      let t = opened_if (are_distinct q.0.0) (option_and_then (branch_within v s st m a r q.0) (bound_in v u q.0)) b q.2 in
+      let n = opened (branch_within v s st m a r q.0) (bound_in v u q.0) b t.1 in
+      let l = opened (if_as_many q.0.0) (bound_by d u q.0.1) n.0 n.1 in
+      one_branch_binds s u st m a r q.0 l.0 n.0 i l.1 b n.2
+
+  pub case_leads : (s : Scope) (st : Sites) (m : Mode) (a b : Walk) (r q : NormalType → Sites → Mode → Option Branches) → WalkLeads a b → ((u : NormalType) (su : Sites) (n : Mode) → Leads (r u su n) (q u su n)) → ((u : NormalType) (su : Sites) (n : Mode) → BranchesBind u (r u su n)) →
+      Leads (case_out v s st m a r) (case_out w s st m b q)
+  case_leads s st m a b r q h i j = then_leads (h.on s st finds) (λ x. then_both (i x.of x.sites m) (λ y o. test_leads _ _ _ (k.covers x.of y.patterns (j x.of x.sites m y o))))
 
   -- ---- bindings and lambdas
 

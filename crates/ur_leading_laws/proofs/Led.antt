@@ -15,7 +15,7 @@ use Rattle.ur_typed.specs.Rules.{Sites, Out, Walk, settled, settling, function_n
 use Rattle.ur_typed.specs.Walking.{with_calls, walk, spine, vals_walk, let_walk, branches_walk, fields_walk, antiquotes_walk, cookie_walk, cookie_field_walk, row_walk, step_walk, splices_walk, attributes_walk, call_walk, typed}
 use Rattle.ur_xmltype.specs.Literal.{row_of_parts}
 use Rattle.ur_leading_laws.specs.Led.{Leads, a_world, Agree, WalkIsLed}
-use Rattle.ur_leading_laws.proofs.Leading.{leads_self, then_leads, if_leads, WalkLeads, WalksLead, no_walks, one_walk, one_leads, show_leads, some_leads, return_leads, error_leads, sides_lead, choice_leads, bind_leads, fields_lead, record_leads, project_leads, cut_leads, antiquote_leads, fold_leads, member_leads, var_leads, constructor_leads, member_constructor_leads, named_in_scope, named_same, con_applied_leads, applied_leads, branch_leads, case_leads, let_leads, lambda_leads, next_leads, get_cookie_leads, set_cookie_leads, write_leads, ask_leads, each_leads, row_leads, step_leads}
+use Rattle.ur_leading_laws.proofs.Leading.{leads_self, then_leads, if_leads, WalkLeads, WalksLead, no_walks, one_walk, one_leads, show_leads, some_leads, return_leads, error_leads, sides_lead, choice_leads, bind_leads, fields_lead, record_leads, project_leads, cut_leads, antiquote_leads, fold_leads, member_leads, var_leads, constructor_leads, member_constructor_leads, named_in_scope, named_same, con_applied_leads, applied_leads, branch_leads, BranchesBind, no_branches_bind, branch_binds, case_leads, let_leads, lambda_leads, next_leads, get_cookie_leads, set_cookie_leads, write_leads, ask_leads, each_leads, row_leads, step_leads}
 use Rattle.ur_leading_laws.proofs.Marks.{SplicesLead, no_splices, one_splice, CallsLead, no_call, a_call, AttributesLead, no_attributes, one_attribute, literal_leads}
 
 settles : (most : ℕ) (m : Mode) (a b : Option Out) → Leads a b → Leads (option_and_then (settled most m) a) (option_and_then (settled most m) b)
@@ -48,6 +48,10 @@ module _ (g : Globals) (ff : List (List ℕ)) (most : ℕ) (d e : Declared) (k :
   call_at_last : (x : ExpForm) (s : Scope) (fs gs : List Walk) → WalksLead fs gs → CallsLead d e (option_map (with_calls fs) (function_named v s x)) (option_map (with_calls gs) (function_named w s x))
   call_at_last x s fs gs h = subst (λ z. CallsLead d e (option_map (with_calls fs) (function_named v s x)) (option_map (with_calls gs) z)) (named_same g ff most d e k s x) (call_leads_at x s fs gs h (function_named v s x) (named_in_scope g ff most d e k s x))
 
+  branches_bind : {n : _} (bs : Row_of-Branch n) (s : Scope) (u : NormalType) (st : Sites) (m : Mode) → BranchesBind g ff most d e k u (branches_walk v bs s u st m)
+  branches_bind end_of-Branch s u st m = no_branches_bind g ff most d e k u st m
+  branches_bind (more_of-Branch t p x rest) s u st m = branch_binds g ff most d e k s u st m t.form (by_v x) _ (λ su n. branches_bind rest s u su n)
+
   mutual
     walks : (x : ExpForm) → Walked x
     walks (form.Int n) s st m = leads_self _
@@ -68,7 +72,7 @@ module _ (g : Globals) (ff : List (List ℕ)) (most : ℕ) (d e : Declared) (k :
     walks (form.Error' _ (its p a alone)) s st m = error_leads s st m (by_v a) (by_w a) (led a (walks a))
     walks (form.Binary' o _ (its p a alone) _ (its q b alone)) s st m = sides_lead (operator_of o) s st m (by_v a) (by_v b) (by_w a) (by_w b) (led a (walks a)) (led b (walks b))
     walks (form.If' _ (its p c alone) _ (its q a alone) _ (its r b alone)) s st m = choice_leads s st m (by_v c) (by_v a) (by_v b) (by_w c) (by_w a) (by_w b) (led c (walks c)) (led a (walks a)) (led b (walks b))
-    walks (form.Case' _ (its p a alone) _ branches) s st m = case_leads g ff most d e k s st m (by_v a) (by_w a) _ _ (led a (walks a)) (λ u su n. branches_lead branches s u su n)
+    walks (form.Case' _ (its p a alone) _ branches) s st m = case_leads g ff most d e k s st m (by_v a) (by_w a) _ _ (led a (walks a)) (λ u su n. branches_lead branches s u su n) (λ u su n. branches_bind branches s u su n)
     walks (form.Let' _ vals _ (its r b alone)) s st m = vals_lead vals s st m (by_v b) (by_w b) (led b (walks b))
     walks (form.Bind' x _ (its p a alone) _ (its q b alone)) s st m = bind_leads s st m x (by_v a) (by_v b) (by_w a) (by_w b) (led a (walks a)) (led b (walks b))
     walks (form.Seq' _ (its p a alone) _ (its q b alone)) s st m = bind_leads s st m binder.Ignored (by_v a) (by_v b) (by_w a) (by_w b) (led a (walks a)) (led b (walks b))

@@ -197,7 +197,7 @@ pub record ValIsWalked (app : Typed) (ff : List (List ℕ)) (hs : Heads) (most :
 
 pub val_walked : (app : Typed) (ff : List (List ℕ)) (hs : Heads) → IsOf app ff hs → (most home : ℕ) (p : Place) (x : List ℕ) (c : Con) (e : WrittenExp) (q : Place) → DeclResolves app most home p (decl.Val x c e) q → AppIsTyped most app →
     (d : Decl) → d.form ≡ decl.Val x c e → (ds : List Decl) (g w : ℕ) (bs : List Exp) → AreBodies app p.functions p.vals (d ∷ ds) g w bs → (st : Sites) → Carried app ff st bs → ValIsWalked app ff hs most p c e.form st ds g w bs
-val_walked app ff hs i most home p x c e _ (project.DeclResolves.val {d = v} n wt r l) t d ef ds g w bs b st cd =
+val_walked app ff hs i most home p x c e _ (project.DeclResolves.val {d = v} wt r l) t d ef ds g w bs b st cd =
     let z : ValBody app p.functions p.vals ds g w bs = bodies_val app p.functions p.vals d ds g w bs (ap is_val ef) b in
     let s : v ≡ z.val = some_of (sym l ∙ z.got) in
     let c' : Carried app ff st (z.val.body ∷ z.rest) = subst (Carried app ff st) z.is cd in

@@ -18,7 +18,7 @@ use Rattle.ur_tree.specs.declared.typed.Typed.{Typed}
 use Rattle.ur_tree.specs.declared.typed.ModuleVal.{ModuleVal}
 use Rattle.ur_tree.specs.declared.typed.Variant.{Variant}
 use Rattle.ur_type_conditions.specs.Names.{WritesType}
-use Rattle.ur_typed.specs.Project.{Place, env_at, with_entry, with_table, with_sequence, with_cookie, with_val, with_variant, with_function, enter, written_keys, AreNamed, FunctionsResolve, VariantsResolve, DeclResolves, DeclsResolve, ModulesResolve}
+use Rattle.ur_typed.specs.Project.{Place, env_at, with_entry, with_table, with_variant, with_function, enter, written_keys, AreNamed, FunctionsResolve, VariantsResolve, DeclResolves, DeclsResolve, ModulesResolve}
 use Rattle.ur_typed.specs.Project as project
 use Rattle.ur_type_rules.proofs.Options.{some_of, some_none}
 use Rattle.ur_project_laws.proofs.Lists.{Agree, agree_next, agree_more}
@@ -57,13 +57,13 @@ pub record Step (a b : Typed) (q z : Place) : Type 0 where
 
 one_named : (p : Place) (fs : List FunDef) (q z : Place) → AreNamed p fs q → AreNamed p fs z → q ≡ z
 one_named p _ _ _ project.AreNamed.none project.AreNamed.none = refl
-one_named p _ q z (project.AreNamed.one {f = f} {fs = fs} h x) (project.AreNamed.one i y) = one_named (with_function f.name p) fs q z x y
+one_named p _ q z (project.AreNamed.one {f = f} {fs = fs} x) (project.AreNamed.one y) = one_named (with_function f.name p) fs q z x y
 
 -- only functions are counted
 pub named_counts : (p : Place) (fs : List FunDef) (q : Place) → AreNamed p fs q →
     (p.functions + length fs ≡ q.functions) × (p.vals ≡ q.vals) × (p.datatypes ≡ q.datatypes) × (p.variants ≡ q.variants) × (length p.globals.cookies ≡ length q.globals.cookies) × (length p.globals.sequences ≡ length q.globals.sequences)
 named_counts p _ _ project.AreNamed.none = let e : p.functions + length {A = FunDef} [] ≡ p.functions = omega arith in (e, refl, refl, refl, refl, refl)
-named_counts p _ q (project.AreNamed.one {f = f} {fs = fs} h x) =
+named_counts p _ q (project.AreNamed.one {f = f} {fs = fs} x) =
     let i = named_counts (with_function f.name p) fs q x in
     let e : p.functions + length (f ∷ fs) ≡ (p.functions + 1) + length fs = omega arith in
     (e ∙ i.0, i.1, i.2, i.3, i.4, i.5)
@@ -86,10 +86,10 @@ another a b p x v h i g = record { functions = g.functions; vals = g.vals; datat
 
 variants_step : (a b : Typed) (most k : ℕ) (p : Place) (vs : List WrittenVariant) (q z : Place) → VariantsResolve a most k p vs q → VariantsResolve b most k p vs z → Agreed a b p → Step a b q z
 variants_step a b most k p _ _ _ project.VariantsResolve.none project.VariantsResolve.none g = record { same = refl; agreed = g }
-variants_step a b most k p _ q z (project.VariantsResolve.plain {v = v} {vs = vs} e n h r) (project.VariantsResolve.plain e' n' h' r') g = variants_step a b most k (with_variant v.name p) vs q z r r' (another a b p v.name (a_variant k v.name None) h h' g)
-variants_step a b most k p _ q z (project.VariantsResolve.plain e n h r) (project.VariantsResolve.with e' w' n' h' r') g = absurd (some_none (sym e' ∙ e))
-variants_step a b most k p _ q z (project.VariantsResolve.with e w n h r) (project.VariantsResolve.plain e' n' h' r') g = absurd (some_none (sym e ∙ e'))
-variants_step a b most k p _ q z (project.VariantsResolve.with {v = v} {vs = vs} {c = c} {t = t} e w n h r) (project.VariantsResolve.with {c = c'} {t = u} e' w' n' h' r') g =
+variants_step a b most k p _ q z (project.VariantsResolve.plain {v = v} {vs = vs} e h r) (project.VariantsResolve.plain e' h' r') g = variants_step a b most k (with_variant v.name p) vs q z r r' (another a b p v.name (a_variant k v.name None) h h' g)
+variants_step a b most k p _ q z (project.VariantsResolve.plain e h r) (project.VariantsResolve.with e' w' h' r') g = absurd (some_none (sym e' ∙ e))
+variants_step a b most k p _ q z (project.VariantsResolve.with e w h r) (project.VariantsResolve.plain e' h' r') g = absurd (some_none (sym e ∙ e'))
+variants_step a b most k p _ q z (project.VariantsResolve.with {v = v} {vs = vs} {c = c} {t = t} e w h r) (project.VariantsResolve.with {c = c'} {t = u} e' w' h' r') g =
     let i : c ≡ c' = some_of (sym e ∙ e') in
     let j : t ≡ u = one_type most (env_at p) c t u w (subst (λ y. WritesType most (env_at p) y u) (sym i) w') in
     variants_step a b most k (with_variant v.name p) vs q z r r' (another a b p v.name (a_variant k v.name (Some t)) h (h' ∙ ap (λ y. Some (a_variant k v.name (Some y))) (sym j)) g)
@@ -97,23 +97,23 @@ variants_step a b most k p _ q z (project.VariantsResolve.with {v = v} {vs = vs}
 -- ---- declarations
 
 pub decl_step : (a b : Typed) → a.modules ≡ b.modules → (most home : ℕ) (p : Place) (d : DeclForm) (q z : Place) → DeclResolves a most home p d q → DeclResolves b most home p d z → Agreed a b p → Step a b q z
-decl_step a b m most home p _ _ _ (project.DeclResolves.con {x = x} {k = k} {c = c} h i j l) (project.DeclResolves.con h' i' j' l') g = record { same = refl; agreed = kept a b p (with_entry x k (meaning.Defined c) p) refl refl refl refl refl refl g }
-decl_step a b m most home p _ _ _ (project.DeclResolves.type_ {x = x} {c = c} h i j) (project.DeclResolves.type_ h' i' j') g = record { same = refl; agreed = kept a b p (with_entry x kind.Star (meaning.Defined c) p) refl refl refl refl refl refl g }
-decl_step a b m most home p _ q z (project.DeclResolves.datatype {x = x} {vs = vs} n h r) (project.DeclResolves.datatype n' h' r') g =
+decl_step a b m most home p _ _ _ (project.DeclResolves.con {x = x} {k = k} {c = c} h i) (project.DeclResolves.con h' i') g = record { same = refl; agreed = kept a b p (with_entry x k (meaning.Defined c) p) refl refl refl refl refl refl g }
+decl_step a b m most home p _ _ _ (project.DeclResolves.type_ {x = x} {c = c} h i) (project.DeclResolves.type_ h' i') g = record { same = refl; agreed = kept a b p (with_entry x kind.Star (meaning.Defined c) p) refl refl refl refl refl refl g }
+decl_step a b m most home p _ q z (project.DeclResolves.datatype {x = x} {vs = vs} h r) (project.DeclResolves.datatype h' r') g =
     variants_step a b most p.datatypes (with_entry x kind.Star (meaning.Datatype p.datatypes) (record p { datatypes = p.datatypes + 1 })) vs q z r r'
     (record { functions = g.functions; vals = g.vals; datatypes = agree_more p.datatypes a.datatypes b.datatypes (record { «module» = home; name = x }) g.datatypes h h'; variants = g.variants; cookies = g.cookies; sequences = g.sequences })
-decl_step a b m most home p _ _ _ (project.DeclResolves.table {x = x} {m = n} {c = c} {primary = primary} {cs = cs} {t = t} {shape = s} w h i f l) (project.DeclResolves.table {m = n'} {t = u} {shape = s'} w' h' i' f' l') g =
+decl_step a b m most home p _ _ _ (project.DeclResolves.table {x = x} {m = n} {c = c} {primary = primary} {cs = cs} {t = t} {shape = s} w h i l) (project.DeclResolves.table {m = n'} {t = u} {shape = s'} w' h' i' l') g =
     let e : n ≡ n' = some_of (sym h ∙ (ap (λ y. slice_get y home) m ∙ h')) in
     let j : t ≡ u = one_type most (env_at p) c t u w w' in
     let i'' : IsTable (name_text (Some n) x) (normal.Type t) (written_keys primary cs) s' = subst (λ y. IsTable (name_text (Some y) x) (normal.Type t) (written_keys primary cs) s') (sym e) (subst (λ y. IsTable (name_text (Some n') x) (normal.Type y) (written_keys primary cs) s') (sym j) i') in
     record { same = ap (λ y. with_table y p) (one_shape (name_text (Some n) x) (normal.Type t) (written_keys primary cs) s s' i i''); agreed = kept a b p (with_table s p) refl refl refl refl refl refl g }
-decl_step a b m most home p _ _ _ (project.DeclResolves.sequence {x = x} {m = n} h i l) (project.DeclResolves.sequence {m = n'} h' i' l') g =
+decl_step a b m most home p _ _ _ (project.DeclResolves.sequence {x = x} {m = n} i l) (project.DeclResolves.sequence {m = n'} i' l') g =
     let e : n ≡ n' = some_of (sym i ∙ (ap (λ y. slice_get y home) m ∙ i')) in
     record {
       same = refl;
       agreed = record { functions = g.functions; vals = g.vals; datatypes = g.datatypes; variants = g.variants; cookies = g.cookies; sequences = agree_next (length p.globals.sequences) a.schema.sequences b.schema.sequences (name_text (Some n) x) g.sequences l (l' ∙ ap (λ y. Some (name_text (Some y) x)) (sym e)) };
     }
-decl_step a b m most home p _ _ _ (project.DeclResolves.cookie {x = x} {m = n} {c = c} {k = k} h w i l) (project.DeclResolves.cookie {m = n'} {k = k'} h' w' i' l') g =
+decl_step a b m most home p _ _ _ (project.DeclResolves.cookie {x = x} {m = n} {c = c} {k = k} w i l) (project.DeclResolves.cookie {m = n'} {k = k'} w' i' l') g =
     let e : n ≡ n' = some_of (sym i ∙ (ap (λ y. slice_get y home) m ∙ i')) in
     let j : k ≡ k' = one_kind k k' (one_type most (env_at p) c (kind_type k) (kind_type k') w w') in
     record {
@@ -127,7 +127,7 @@ decl_step a b m most home p _ _ _ (project.DeclResolves.cookie {x = x} {m = n} {
         sequences = g.sequences;
       };
     }
-decl_step a b m most home p _ _ _ (project.DeclResolves.val {x = x} {c = c} {d = v} h w r l) (project.DeclResolves.val {d = v'} h' w' r' l') g =
+decl_step a b m most home p _ _ _ (project.DeclResolves.val {x = x} {c = c} {d = v} w r l) (project.DeclResolves.val {d = v'} w' r' l') g =
     let j : v.of ≡ v'.of = one_type most (env_at p) c v.of v'.of w w' in
     record {
       same = refl;

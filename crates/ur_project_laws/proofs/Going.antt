@@ -101,8 +101,8 @@ group_going a b most ff hs u home q n v _ (project.FunctionsResolve.one {f = f} 
 
 variants_counts : (app : Typed) (most k : ℕ) (p : Place) (vs : List WrittenVariant) (q : Place) → VariantsResolve app most k p vs q → (p.functions ≡ q.functions) × (p.vals ≡ q.vals)
 variants_counts app most k p _ _ project.VariantsResolve.none = (refl, refl)
-variants_counts app most k p _ q (project.VariantsResolve.plain {v = v} {vs = vs} e n h r) = variants_counts app most k (with_variant v.name p) vs q r
-variants_counts app most k p _ q (project.VariantsResolve.with {v = v} {vs = vs} e w n h r) = variants_counts app most k (with_variant v.name p) vs q r
+variants_counts app most k p _ q (project.VariantsResolve.plain {v = v} {vs = vs} e h r) = variants_counts app most k (with_variant v.name p) vs q r
+variants_counts app most k p _ q (project.VariantsResolve.with {v = v} {vs = vs} e w h r) = variants_counts app most k (with_variant v.name p) vs q r
 
 passed_over : (a b : Typed) (ff : List (List ℕ)) (f v : ℕ) (d : Decl) (ds : List Decl) (fa va fb vb : ℕ) (xs ys : List Exp) (st : Sites) → HasNoBody d.form → AreBodies a f v (d ∷ ds) fa va xs → AreBodies b f v (d ∷ ds) fb vb ys → Going a b ff f v st xs ys → Gone a b ff f v ds fa va fb vb xs ys
 passed_over a b ff f v d ds fa va fb vb xs ys st n x y g = record { sites = st; in_a = xs; in_b = ys; going = g; bodies_a = bodies_other a f v d ds fa va xs n x; bodies_b = bodies_other b f v d ds fb vb ys n y; back = λ e. e }
@@ -141,17 +141,17 @@ functions_going a b most ff hs u home p q fs r r' ds fa va fb vb xs ys st g i j 
 
 decl_going : (a b : Typed) (most : ℕ) (ff : List (List ℕ)) (hs : Heads) → Both a b most ff hs → (home : ℕ) (p : Place) (d : Decl) (form : DeclForm) (q : Place) → DeclResolves a most home p form q → DeclResolves b most home p form q → d.form ≡ form →
     (ds : List Decl) (fa va fb vb : ℕ) (xs ys : List Exp) (st : Sites) → AreBodies a p.functions p.vals (d ∷ ds) fa va xs → AreBodies b p.functions p.vals (d ∷ ds) fb vb ys → Going a b ff p.functions p.vals st xs ys → Gone a b ff q.functions q.vals ds fa va fb vb xs ys
-decl_going a b most ff hs u home p d _ _ (project.DeclResolves.con i j k l) y e ds fa va fb vb xs ys st ba bb g = passed_over a b ff p.functions p.vals d ds fa va fb vb xs ys st (subst HasNoBody (sym e) source.HasNoBody.con) ba bb g
-decl_going a b most ff hs u home p d _ _ (project.DeclResolves.type_ i j k) y e ds fa va fb vb xs ys st ba bb g = passed_over a b ff p.functions p.vals d ds fa va fb vb xs ys st (subst HasNoBody (sym e) source.HasNoBody.type_) ba bb g
-decl_going a b most ff hs u home p d _ q (project.DeclResolves.datatype {vs = vs} i j r) y e ds fa va fb vb xs ys st ba bb g =
+decl_going a b most ff hs u home p d _ _ (project.DeclResolves.con i j) y e ds fa va fb vb xs ys st ba bb g = passed_over a b ff p.functions p.vals d ds fa va fb vb xs ys st (subst HasNoBody (sym e) source.HasNoBody.con) ba bb g
+decl_going a b most ff hs u home p d _ _ (project.DeclResolves.type_ i j) y e ds fa va fb vb xs ys st ba bb g = passed_over a b ff p.functions p.vals d ds fa va fb vb xs ys st (subst HasNoBody (sym e) source.HasNoBody.type_) ba bb g
+decl_going a b most ff hs u home p d _ q (project.DeclResolves.datatype {vs = vs} i r) y e ds fa va fb vb xs ys st ba bb g =
     let c : (p.functions ≡ q.functions) × (p.vals ≡ q.vals) = variants_counts a most p.datatypes _ vs q r in
     moved a b ff p.functions q.functions p.vals q.vals ds fa va fb vb xs ys c.0 c.1 (passed_over a b ff p.functions p.vals d ds fa va fb vb xs ys st (subst HasNoBody (sym e) source.HasNoBody.datatype) ba bb g)
-decl_going a b most ff hs u home p d _ _ (project.DeclResolves.table i j k l m) y e ds fa va fb vb xs ys st ba bb g = passed_over a b ff p.functions p.vals d ds fa va fb vb xs ys st (subst HasNoBody (sym e) source.HasNoBody.table) ba bb g
-decl_going a b most ff hs u home p d _ _ (project.DeclResolves.sequence i j k) y e ds fa va fb vb xs ys st ba bb g = passed_over a b ff p.functions p.vals d ds fa va fb vb xs ys st (subst HasNoBody (sym e) source.HasNoBody.sequence) ba bb g
-decl_going a b most ff hs u home p d _ _ (project.DeclResolves.cookie i j k l) y e ds fa va fb vb xs ys st ba bb g = passed_over a b ff p.functions p.vals d ds fa va fb vb xs ys st (subst HasNoBody (sym e) source.HasNoBody.cookie) ba bb g
-decl_going a b most ff hs u home p d _ _ (project.DeclResolves.val {x = x} {c = c} {e = z} i j k l) y e ds fa va fb vb xs ys st ba bb g =
+decl_going a b most ff hs u home p d _ _ (project.DeclResolves.table i j k l) y e ds fa va fb vb xs ys st ba bb g = passed_over a b ff p.functions p.vals d ds fa va fb vb xs ys st (subst HasNoBody (sym e) source.HasNoBody.table) ba bb g
+decl_going a b most ff hs u home p d _ _ (project.DeclResolves.sequence i j) y e ds fa va fb vb xs ys st ba bb g = passed_over a b ff p.functions p.vals d ds fa va fb vb xs ys st (subst HasNoBody (sym e) source.HasNoBody.sequence) ba bb g
+decl_going a b most ff hs u home p d _ _ (project.DeclResolves.cookie i j k) y e ds fa va fb vb xs ys st ba bb g = passed_over a b ff p.functions p.vals d ds fa va fb vb xs ys st (subst HasNoBody (sym e) source.HasNoBody.cookie) ba bb g
+decl_going a b most ff hs u home p d _ _ (project.DeclResolves.val {x = x} {c = c} {e = z} i j k) y e ds fa va fb vb xs ys st ba bb g =
     val_going a b most ff hs u p c z ds fa va fb vb xs ys st g
-    (val_walked a ff hs u.of_a most home p x c z _ (project.DeclResolves.val i j k l) u.typed_a d e ds fa va xs ba st g.left)
+    (val_walked a ff hs u.of_a most home p x c z _ (project.DeclResolves.val i j k) u.typed_a d e ds fa va xs ba st g.left)
     (val_walked b ff hs u.of_b most home p x c z _ y u.typed_b d e ds fb vb ys bb st g.right)
 decl_going a b most ff hs u home p d _ q (project.DeclResolves.functions {fs = fs} n r) (project.DeclResolves.functions n' r') e ds fa va fb vb xs ys st ba bb g =
     let c = named_counts p fs q n in

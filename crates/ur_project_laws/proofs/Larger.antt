@@ -32,7 +32,7 @@ use Rattle.ur_project_laws.proofs.Wider.{wider_written, wider_type, wider_row, w
 
 larger_cons : {m n : ℕ} {names after : Names} {ps : List WrittenConParam} {cs : List ConParam} → m ≤ n → AreConParams m names ps after cs → AreConParams n names ps after cs
 larger_cons l project.AreConParams.none = project.AreConParams.none
-larger_cons l (project.AreConParams.kinded h x) = project.AreConParams.kinded h (larger_cons l x)
+larger_cons l (project.AreConParams.kinded x) = project.AreConParams.kinded (larger_cons l x)
 larger_cons l (project.AreConParams.apart r s x) = project.AreConParams.apart (wider_row l r) (wider_row l s) (larger_cons l x)
 
 larger_params : {m n : ℕ} {names : Names} {ps : List WrittenParam} {ls : List Local} {qs : List Param} → m ≤ n → AreParams m names ps ls qs → AreParams n names ps ls qs
@@ -45,8 +45,6 @@ larger_function l x = record {
   locals = x.locals;
   cons = larger_cons l x.cons;
   params = larger_params l x.params;
-  distinct_cons = x.distinct_cons;
-  distinct = x.distinct;
   result = wider_type l x.result;
   body = wider l refl x.body;
   name = x.name;
@@ -61,17 +59,17 @@ larger_functions l (project.FunctionsResolve.one h x xs) = project.FunctionsReso
 
 larger_variants : {app : Typed} {m n k : ℕ} {p q : Place} {vs : List WrittenVariant} → m ≤ n → VariantsResolve app m k p vs q → VariantsResolve app n k p vs q
 larger_variants l project.VariantsResolve.none = project.VariantsResolve.none
-larger_variants l (project.VariantsResolve.plain e h i x) = project.VariantsResolve.plain e h i (larger_variants l x)
-larger_variants l (project.VariantsResolve.with e w h i x) = project.VariantsResolve.with e (wider_type l w) h i (larger_variants l x)
+larger_variants l (project.VariantsResolve.plain e h x) = project.VariantsResolve.plain e h (larger_variants l x)
+larger_variants l (project.VariantsResolve.with e w h x) = project.VariantsResolve.with e (wider_type l w) h (larger_variants l x)
 
 larger_decl : {app : Typed} {m n home : ℕ} {p q : Place} {d : DeclForm} → m ≤ n → DeclResolves app m home p d q → DeclResolves app n home p d q
-larger_decl l (project.DeclResolves.con h i w a) = project.DeclResolves.con h i (wider_written l w) a
-larger_decl l (project.DeclResolves.type_ h w a) = project.DeclResolves.type_ h (wider_written l w) a
-larger_decl l (project.DeclResolves.datatype h i x) = project.DeclResolves.datatype h i (larger_variants l x)
-larger_decl l (project.DeclResolves.table w h i f s) = project.DeclResolves.table (wider_type l w) h i f s
-larger_decl l (project.DeclResolves.sequence h i s) = project.DeclResolves.sequence h i s
-larger_decl l (project.DeclResolves.cookie h w i s) = project.DeclResolves.cookie h (wider_type l w) i s
-larger_decl l (project.DeclResolves.val h w r s) = project.DeclResolves.val h (wider_type l w) (wider l refl r) s
+larger_decl l (project.DeclResolves.con w a) = project.DeclResolves.con (wider_written l w) a
+larger_decl l (project.DeclResolves.type_ w a) = project.DeclResolves.type_ (wider_written l w) a
+larger_decl l (project.DeclResolves.datatype h x) = project.DeclResolves.datatype h (larger_variants l x)
+larger_decl l (project.DeclResolves.table w h i s) = project.DeclResolves.table (wider_type l w) h i s
+larger_decl l (project.DeclResolves.sequence h s) = project.DeclResolves.sequence h s
+larger_decl l (project.DeclResolves.cookie w h s) = project.DeclResolves.cookie (wider_type l w) h s
+larger_decl l (project.DeclResolves.val w r s) = project.DeclResolves.val (wider_type l w) (wider l refl r) s
 larger_decl l (project.DeclResolves.functions h x) = project.DeclResolves.functions h (larger_functions l x)
 
 larger_decls : {app : Typed} {m n home : ℕ} {p q : Place} {ds : List Decl} → m ≤ n → DeclsResolve app m home p ds q → DeclsResolve app n home p ds q
@@ -107,10 +105,7 @@ larger_app app m n l x = record {
 }
 
 larger_signature : {app : Typed} {m n : ℕ} {p : Place} {s : Signature} → m ≤ n → SignatureFits app m p s → SignatureFits app n p s
-larger_signature l x = record {
-  fits = λ v c. let i = x.fits v c in (i.0, i.1, i.2, i.3, wider_type l i.4, i.5, i.6);
-  once = x.once;
-}
+larger_signature l x = record { fits = λ v c. let i = x.fits v c in (i.0, i.1, i.2, i.3, wider_type l i.4, i.5, i.6) }
 
 pub larger_limit : LargerLimit
 larger_limit most more l names modules signature app x = record {

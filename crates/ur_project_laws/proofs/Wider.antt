@@ -6,7 +6,6 @@ use mathlib.Core.Former.{Count}
 use Rattle.ur_base.specs.Shape.{Shape, count}
 use Rattle.ur_syntax.specs.declared.con.Con.{Con}
 use Rattle.ur_syntax.specs.declared.con.ConEnv.{ConEnv}
-use Rattle.ur_syntax.specs.declared.kind.Kind.{Kind}
 use Rattle.ur_syntax.specs.declared.exp.ExpForm.{ExpForm, Row_of-Exp, Row_of-Field, Row_of-Branch}
 use Rattle.ur_syntax.specs.declared.exp.LambdaParam.{LambdaParam}
 use Rattle.ur_syntax.specs.declared.exp.Param.{Param as WrittenParam}
@@ -49,8 +48,8 @@ wider_pattern e (resolves.IsPattern.member_of h i) = resolves.IsPattern.member_o
 
 -- ---- what is written within a limit
 
-pub wider_written : {most more : ℕ} {env : ConEnv} {c : Con} {k : Kind} {n : Normal} → most ≤ more → IsWritten most env c k n → IsWritten more env c k n
-wider_written l x = let i = x.small in record { kinded = x.kinded; form = x.form; small = omega (arith, i, l) }
+pub wider_written : {most more : ℕ} {env : ConEnv} {c : Con} {n : Normal} → most ≤ more → IsWritten most env c n → IsWritten more env c n
+wider_written l x = let i = x.small in record { form = x.form; small = omega (arith, i, l) }
 
 pub wider_type : {most more : ℕ} {env : ConEnv} {c : Con} {t : NormalType} → most ≤ more → WritesType most env c t → WritesType more env c t
 wider_type l x = (x.0, wider_written l x.1, x.2)

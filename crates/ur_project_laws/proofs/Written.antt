@@ -51,7 +51,7 @@ one_params most names _ _ _ _ _ (project.AreParams.one {p = p} {l = l} {q = q} {
 
 one_cons : (most : ℕ) (names : Names) (ps : List WrittenConParam) (m n : Names) (cs ds : List ConParam) → AreConParams most names ps m cs → AreConParams most names ps n ds → (m ≡ n) × (cs ≡ ds)
 one_cons most _ _ _ _ _ _ project.AreConParams.none project.AreConParams.none = (refl, refl)
-one_cons most names _ m n _ _ (project.AreConParams.kinded {x = x} {k = k} {cons = ps} {out = cs} h xs) (project.AreConParams.kinded {out = ds} i ys) =
+one_cons most names _ m n _ _ (project.AreConParams.kinded {x = x} {k = k} {cons = ps} {out = cs} xs) (project.AreConParams.kinded {out = ds} ys) =
     let j : (m ≡ n) × (cs ≡ ds) = one_cons most _ ps m n cs ds xs ys in (j.0, ap (λ z. con_param.Kinded k ∷ z) j.1)
 one_cons most names _ m n _ _ (project.AreConParams.apart {c = c} {d = d} {r = r} {s = s} {cons = ps} {out = cs} wr ws xs) (project.AreConParams.apart {r = u} {s = v} {out = ds} vr vs ys) =
     let j : (m ≡ n) × (cs ≡ ds) = one_cons most names ps m n cs ds xs ys in

@@ -19,7 +19,7 @@ use Rattle.ur_tree.specs.IsStatic.{is_static}
 use Rattle.ur_tree.specs.App.{AppIsTyped, FunctionIsTyped, nothing_in_scope, within_body}
 use Rattle.ur_type_conditions.specs.Scopes.{World, Scope, Mode, wants}
 use Rattle.ur_type_rules.proofs.Options.{some_of, then_some}
-use Rattle.ur_typed.specs.Project.{Place, names_at, statements, with_val, with_variant, FunctionResolves, FunctionsResolve, AreNamed, VariantsResolve, DeclResolves}
+use Rattle.ur_typed.specs.Project.{Place, names_at, statements, with_val, with_variant, FunctionResolves, FunctionsResolve, VariantsResolve, DeclResolves}
 use Rattle.ur_typed.specs.Project as project
 use Rattle.ur_typed.specs.Typed.{HasNoBody, AreFunctions, AreBodies}
 use Rattle.ur_typed.specs.Typed as source
@@ -111,8 +111,8 @@ pub record Went (app : Typed) (most : ℕ) (form : DeclForm) (z after : Sofar) (
 
 variants_count : (app : Typed) (most k : ℕ) (p : Place) (vs : List WrittenVariant) (q : Place) → VariantsResolve app most k p vs q → (p.functions ≡ q.functions) × (p.vals ≡ q.vals)
 variants_count app most k p _ _ project.VariantsResolve.none = (refl, refl)
-variants_count app most k p _ q (project.VariantsResolve.plain {v = v} {vs = vs} e n h r) = variants_count app most k (with_variant v.name p) vs q r
-variants_count app most k p _ q (project.VariantsResolve.with {v = v} {vs = vs} e w n h r) = variants_count app most k (with_variant v.name p) vs q r
+variants_count app most k p _ q (project.VariantsResolve.plain {v = v} {vs = vs} e h r) = variants_count app most k (with_variant v.name p) vs q r
+variants_count app most k p _ q (project.VariantsResolve.with {v = v} {vs = vs} e w h r) = variants_count app most k (with_variant v.name p) vs q r
 
 moved : {app : Typed} {most : ℕ} {form : DeclForm} {z after : Sofar} {b : Bodies} {f g v w : ℕ} {ds : List Decl} {fa va : ℕ} → f ≡ g → v ≡ w → Went app most form z after b f v ds fa va → Went app most form z after b g w ds fa va
 moved {app} {most} {form} {z} {after} {b} {f} {g} {v} {w} {ds} {fa} {va} e i x = subst (λ k. Went app most form z after b g k ds fa va) i (subst (λ k. Went app most form z after b k v ds fa va) e x)
@@ -151,15 +151,15 @@ functions_are app most home t p q r z fs x ds fa va xs st c i =
 
 pub decl_bodies : (app : Typed) (most home : ℕ) → AppIsTyped most app → (p : Place) (d : Decl) (form : DeclForm) (q : Place) → DeclResolves app most home p form q → d.form ≡ form → Ready app home p → Ready app home q → (ds : List Decl) (fa va : ℕ) (xs : List Exp) (st : Sites) →
     AreBodies app p.functions p.vals (d ∷ ds) fa va xs → Held app st xs → Went app most form (sofar app p) (sofar app q) (bodies app p.functions p.vals st) q.functions q.vals ds fa va
-decl_bodies app most home t p d _ _ (project.DeclResolves.con i j k l) e r r' ds fa va xs st b c = passed app most _ _ _ p d ds fa va xs st (subst HasNoBody (sym e) source.HasNoBody.con) refl b c
-decl_bodies app most home t p d _ _ (project.DeclResolves.type_ i j k) e r r' ds fa va xs st b c = passed app most _ _ _ p d ds fa va xs st (subst HasNoBody (sym e) source.HasNoBody.type_) refl b c
-decl_bodies app most home t p d _ q (project.DeclResolves.datatype {vs = vs} i j x) e r r' ds fa va xs st b c =
+decl_bodies app most home t p d _ _ (project.DeclResolves.con i j) e r r' ds fa va xs st b c = passed app most _ _ _ p d ds fa va xs st (subst HasNoBody (sym e) source.HasNoBody.con) refl b c
+decl_bodies app most home t p d _ _ (project.DeclResolves.type_ i j) e r r' ds fa va xs st b c = passed app most _ _ _ p d ds fa va xs st (subst HasNoBody (sym e) source.HasNoBody.type_) refl b c
+decl_bodies app most home t p d _ q (project.DeclResolves.datatype {vs = vs} i x) e r r' ds fa va xs st b c =
     let k : (p.functions ≡ q.functions) × (p.vals ≡ q.vals) = variants_count app most p.datatypes _ vs q x in
     moved k.0 k.1 (passed app most _ _ _ p d ds fa va xs st (subst HasNoBody (sym e) source.HasNoBody.datatype) refl b c)
-decl_bodies app most home t p d _ _ (project.DeclResolves.table i j k l m) e r r' ds fa va xs st b c = passed app most _ _ _ p d ds fa va xs st (subst HasNoBody (sym e) source.HasNoBody.table) refl b c
-decl_bodies app most home t p d _ _ (project.DeclResolves.sequence i j k) e r r' ds fa va xs st b c = passed app most _ _ _ p d ds fa va xs st (subst HasNoBody (sym e) source.HasNoBody.sequence) refl b c
-decl_bodies app most home t p d _ _ (project.DeclResolves.cookie i j k l) e r r' ds fa va xs st b c = passed app most _ _ _ p d ds fa va xs st (subst HasNoBody (sym e) source.HasNoBody.cookie) refl b c
-decl_bodies app most home t p d _ _ (project.DeclResolves.val {x = x} {c = w} {e = z} i j k l) e r r' ds fa va xs st b c =
-    val_is app most home t p r x w z (sofar app (with_val x p)) ds fa va xs st c.queries c.changes (val_walked app app.names (bare app) (own_names app) most home p x w z (with_val x p) (project.DeclResolves.val i j k l) t d e ds fa va xs b st c.carried)
+decl_bodies app most home t p d _ _ (project.DeclResolves.table i j k l) e r r' ds fa va xs st b c = passed app most _ _ _ p d ds fa va xs st (subst HasNoBody (sym e) source.HasNoBody.table) refl b c
+decl_bodies app most home t p d _ _ (project.DeclResolves.sequence i j) e r r' ds fa va xs st b c = passed app most _ _ _ p d ds fa va xs st (subst HasNoBody (sym e) source.HasNoBody.sequence) refl b c
+decl_bodies app most home t p d _ _ (project.DeclResolves.cookie i j k) e r r' ds fa va xs st b c = passed app most _ _ _ p d ds fa va xs st (subst HasNoBody (sym e) source.HasNoBody.cookie) refl b c
+decl_bodies app most home t p d _ _ (project.DeclResolves.val {x = x} {c = w} {e = z} i j k) e r r' ds fa va xs st b c =
+    val_is app most home t p r x w z (sofar app (with_val x p)) ds fa va xs st c.queries c.changes (val_walked app app.names (bare app) (own_names app) most home p x w z (with_val x p) (project.DeclResolves.val i j k) t d e ds fa va xs b st c.carried)
 decl_bodies app most home t p d _ q (project.DeclResolves.functions {fs = fs} n x) e r r' ds fa va xs st b c =
     let k = named_counts p fs q n in moved k.0 k.1 (functions_are app most home t p q r' (sofar app p) fs x ds fa va xs st c (bodies_functions app p.functions p.vals d fs ds fa va xs e b))

@@ -20,7 +20,7 @@ use Rattle.ur_tree.specs.declared.typed.Typed.{Typed}
 use Rattle.ur_tree.specs.declared.typed.Variant.{Variant}
 use Rattle.ur_tree.specs.declared.typed.Function.{Function}
 use Rattle.ur_tree.specs.Heads.{Declared as Heads, head_of}
-use Rattle.ur_tree.specs.Patterns.{same_pattern, last_is_any, has_all, tags_from, constructors_of}
+use Rattle.ur_tree.specs.Patterns.{same_pattern, are_some, last_is_any, has_all, tags_from, constructors_of}
 use Rattle.ur_type_conditions.specs.Names.{Globals, declared}
 use Rattle.ur_type_conditions.specs.Names as here
 use Rattle.ur_type_conditions.specs.Tests.{are_once, covers}
@@ -133,22 +133,22 @@ datatype_counted p c = record { values = c.values; constructors = c.constructors
 
 variants_ready : (app : Typed) (most home k : ℕ) (p : Place) (vs : List WrittenVariant) (q : Place) → VariantsResolve app most k p vs q → Ready app home p → Ready app home q
 variants_ready app most home k p _ _ project.VariantsResolve.none r = r
-variants_ready app most home k p _ q (project.VariantsResolve.plain {v = v} {vs = vs} e n h x) r = variants_ready app most home k (with_variant v.name p) vs q x (record { counted = variant_counted v.name p r.counted; fields = r.fields; at_home = r.at_home })
-variants_ready app most home k p _ q (project.VariantsResolve.with {v = v} {vs = vs} e w n h x) r = variants_ready app most home k (with_variant v.name p) vs q x (record { counted = variant_counted v.name p r.counted; fields = r.fields; at_home = r.at_home })
+variants_ready app most home k p _ q (project.VariantsResolve.plain {v = v} {vs = vs} e h x) r = variants_ready app most home k (with_variant v.name p) vs q x (record { counted = variant_counted v.name p r.counted; fields = r.fields; at_home = r.at_home })
+variants_ready app most home k p _ q (project.VariantsResolve.with {v = v} {vs = vs} e w h x) r = variants_ready app most home k (with_variant v.name p) vs q x (record { counted = variant_counted v.name p r.counted; fields = r.fields; at_home = r.at_home })
 
 named_ready : (app : Typed) (home : ℕ) (p : Place) (fs : List FunDef) (q : Place) → AreNamed p fs q → Ready app home p → Ready app home q
 named_ready app home p _ _ project.AreNamed.none r = r
-named_ready app home p _ q (project.AreNamed.one {f = f} {fs = fs} h x) r = named_ready app home (with_function f.name p) fs q x (record { counted = function_counted f.name p r.counted; fields = r.fields; at_home = r.at_home })
+named_ready app home p _ q (project.AreNamed.one {f = f} {fs = fs} x) r = named_ready app home (with_function f.name p) fs q x (record { counted = function_counted f.name p r.counted; fields = r.fields; at_home = r.at_home })
 
 pub decl_ready : (app : Typed) (most home : ℕ) (p : Place) (d : DeclForm) (q : Place) → DeclResolves app most home p d q → Ready app home p → Ready app home q
-decl_ready app most home p _ _ (project.DeclResolves.con {x = x} {k = k} {c = c} h i j l) r = record { counted = entry_counted x k (meaning.Defined c) p r.counted; fields = r.fields; at_home = r.at_home }
-decl_ready app most home p _ _ (project.DeclResolves.type_ {x = x} {c = c} h i j) r = record { counted = entry_counted x kind.Star (meaning.Defined c) p r.counted; fields = r.fields; at_home = r.at_home }
-decl_ready app most home p _ q (project.DeclResolves.datatype {x = x} {vs = vs} h i y) r =
+decl_ready app most home p _ _ (project.DeclResolves.con {x = x} {k = k} {c = c} j l) r = record { counted = entry_counted x k (meaning.Defined c) p r.counted; fields = r.fields; at_home = r.at_home }
+decl_ready app most home p _ _ (project.DeclResolves.type_ {x = x} {c = c} i j) r = record { counted = entry_counted x kind.Star (meaning.Defined c) p r.counted; fields = r.fields; at_home = r.at_home }
+decl_ready app most home p _ q (project.DeclResolves.datatype {x = x} {vs = vs} i y) r =
     let z : Place = with_entry x kind.Star (meaning.Datatype p.datatypes) (counted p) in variants_ready app most home p.datatypes z vs q y (record { counted = entry_counted x kind.Star (meaning.Datatype p.datatypes) (counted p) (datatype_counted p r.counted); fields = r.fields; at_home = r.at_home })
-decl_ready app most home p _ _ (project.DeclResolves.table {shape = s} w h i f l) r = record { counted = record { values = r.counted.values; constructors = r.counted.constructors; cookies = r.counted.cookies; sequences = r.counted.sequences }; fields = r.fields; at_home = r.at_home }
-decl_ready app most home p _ _ (project.DeclResolves.sequence {x = x} h i l) r = record { counted = sequence_counted x p r.counted; fields = r.fields; at_home = r.at_home }
-decl_ready app most home p _ _ (project.DeclResolves.cookie {x = x} h w i l) r = record { counted = cookie_counted x p r.counted; fields = r.fields; at_home = r.at_home }
-decl_ready app most home p _ _ (project.DeclResolves.val {x = x} h w y l) r = record { counted = val_counted x p r.counted; fields = r.fields; at_home = r.at_home }
+decl_ready app most home p _ _ (project.DeclResolves.table {shape = s} w h i l) r = record { counted = record { values = r.counted.values; constructors = r.counted.constructors; cookies = r.counted.cookies; sequences = r.counted.sequences }; fields = r.fields; at_home = r.at_home }
+decl_ready app most home p _ _ (project.DeclResolves.sequence {x = x} i l) r = record { counted = sequence_counted x p r.counted; fields = r.fields; at_home = r.at_home }
+decl_ready app most home p _ _ (project.DeclResolves.cookie {x = x} w i l) r = record { counted = cookie_counted x p r.counted; fields = r.fields; at_home = r.at_home }
+decl_ready app most home p _ _ (project.DeclResolves.val {x = x} w y l) r = record { counted = val_counted x p r.counted; fields = r.fields; at_home = r.at_home }
 decl_ready app most home p _ q (project.DeclResolves.functions {fs = fs} n y) r = named_ready app home p fs q n r
 
 pub nothing_counted : (fields : List (List ℕ)) → Counted (nothing_declared fields)
@@ -203,7 +203,9 @@ tags_lead q c n (suc k) (v ∷ vs) h = by_datatype (v.datatype == c) (tags_from 
 
 all_lead : (d e : Heads) (k : ℕ) (vs : List Variant) → d.variants ≡ map a_heading vs → e.variants ≡ map a_heading (take k vs) → (t : NormalType) (ps : List Pattern) → has_all (constructors_of d t) ps ≡ true → has_all (constructors_of e t) ps ≡ true
 all_lead d e k vs i j (ty.Datatype n) ps h =
-    ap (λ z. list_all (λ c. list_any (same_pattern c) ps) (tags_from n 0 z)) j ∙ tags_lead (λ c. list_any (same_pattern c) ps) n 0 k vs (ap (λ z. list_all (λ c. list_any (same_pattern c) ps) (tags_from n 0 z)) (sym i) ∙ h)
+    let m = both_of (are_some ps) (list_all (λ c. list_any (same_pattern c) ps) (tags_from n 0 d.variants)) h in
+    of_both (are_some ps) (list_all (λ c. list_any (same_pattern c) ps) (tags_from n 0 e.variants)) m.0
+    (ap (λ z. list_all (λ c. list_any (same_pattern c) ps) (tags_from n 0 z)) j ∙ tags_lead (λ c. list_any (same_pattern c) ps) n 0 k vs (ap (λ z. list_all (λ c. list_any (same_pattern c) ps) (tags_from n 0 z)) (sym i) ∙ m.1))
 all_lead d e k vs i j ty.Bool ps h = h
 all_lead d e k vs i j (ty.Opt' _ t) ps h = h
 all_lead d e k vs i j (ty.Many' _ t) ps h = h
@@ -234,7 +236,7 @@ agree_by app p k vs f = record {
   variants = λ c n h. record { on = λ y i. front_map a_heading p.variants n app.variants y (named_seen (Below p.variants) p.globals p.globals.constructors c n k.constructors h) i };
   cookies = λ c n h. record { on = λ y i. front_map (λ z. z.1) (length p.globals.cookies) n app.cookies y (named_seen (Below (length p.globals.cookies)) p.globals p.globals.cookies c n k.cookies h) i };
   sequences = λ c n h i. below_is n _ (shorter (length p.globals.sequences) n app.schema.sequences (named_seen (Below (length p.globals.sequences)) p.globals p.globals.sequences c n k.sequences h) (is_below n (length app.schema.sequences) i));
-  covers = λ t ps h. covers_lead (record (bare app) { vals = vs }) (declared_so_far (sofar app p)) p.variants app.variants refl refl t ps h;
+  covers = λ t ps b h. covers_lead (record (bare app) { vals = vs }) (declared_so_far (sofar app p)) p.variants app.variants refl refl t ps h;
 }
 
 -- all that a source declares, and what it declares before a place

@@ -1,6 +1,8 @@
-mod Among
+pub mod Among
 mod Bodying
 mod Counting
-mod Given
-mod Made
-mod Standing
+pub mod Extending
+pub mod Given
+pub mod Made
+pub mod Standing
+pub mod Upwards

@@ -24,10 +24,10 @@ use Rattle.ur_type_conditions.proofs.Decided.{pages_decided}
 use Rattle.ur_type_rules.proofs.Options.{some_of, then_some, opened, mapped, some_none}
 use Rattle.ur_typing_laws.specs.Judged.{AreFilled}
 use Rattle.ur_typed.specs.Project.{Place}
-use Rattle.ur_typed.specs.Typed.{nothing_declared, all_decls, AreBodies, SignatureFits, IsEntry, IsGot, RoutesFit, all_occurrences, IsTypedWithin}
+use Rattle.ur_typed.specs.Typed.{nothing_declared, all_decls, SignatureFits, IsEntry, IsGot, RoutesFit, all_occurrences, IsTypedWithin}
 use Rattle.ur_typed.specs.Typed as source
 use Rattle.ur_typed.specs.Rules.{Sites}
-use Rattle.ur_typed.specs.Declaring.{Checked, is_entry, entry_out, if_entry, entries_of, entries_out, ended, modules_out, project_out, nothing_yet}
+use Rattle.ur_typed.specs.Declaring.{Checked, is_entry, entry_out, if_entry, entries_of, entries_out, ended, modules_out, project_out}
 use Rattle.ur_project_laws.proofs.Lists.{rises, same_rising}
 use Rattle.ur_project_laws.proofs.Routes.{NameBefore, names_turn}
 use Rattle.ur_project_laws.proofs.Written.{headed}
@@ -36,7 +36,8 @@ use Rattle.ur_project_laws.proofs.Bodies.{bodies_end}
 use Rattle.ur_project_laws.proofs.Going.{body_of, right_side}
 use Rattle.ur_checked.specs.Made.{occurring, IsMadeOf}
 use Rattle.ur_checked.specs.Routing.{IsLinked, AreRoutes}
-use Rattle.ur_source_laws.specs.Given.{AreNames, IsGiven, TypedIsGiven, NoneHasNoSource, SourceIsMade}
+use Rattle.ur_checked.specs.Source.{AreFieldNames, begun}
+use Rattle.ur_source_laws.specs.Given.{IsGiven, TypedIsGiven, NoneHasNoSource, SourceIsMade}
 use Rattle.ur_source_laws.proofs.Standing.{sofar}
 use Rattle.ur_source_laws.proofs.Bodying.{Held}
 use Rattle.ur_source_laws.proofs.Given.{checked, Through, whole, entry_is, all_have, no_statement, all_through}
@@ -71,11 +72,11 @@ function_number (here.function n) = n
 function_number (here.val n) = n
 
 -- the entries, as the rules have them
-record Entered (app : Typed) (most : ℕ) (p : Place) (main : ℕ) (signature : Option Signature) : Type 0 where
-  entries : List ℕ
-  out : entries_out most (sofar app p) main signature ≡ Some entries
-  forth : (f : ℕ) → In f entries → IsEntry app p main signature f
-  back : (f : ℕ) → IsEntry app p main signature f → In f entries
+pub record Entered (app : Typed) (most : ℕ) (p : Place) (main : ℕ) (signature : Option Signature) : Type 0 where
+  pub entries : List ℕ
+  pub out : entries_out most (sofar app p) main signature ≡ Some entries
+  pub forth : (f : ℕ) → In f entries → IsEntry app p main signature f
+  pub back : (f : ℕ) → IsEntry app p main signature f → In f entries
 
 signed_entries : (app : Typed) (most : ℕ) (p : Place) (main : ℕ) → length app.functions ≡ p.functions → (s : Signature) → SignatureFits app most p s → Entered app most p main (Some s)
 signed_entries app most p main e s k = record { entries = all.0; out = all.1; forth = forth; back = back } where
@@ -159,24 +160,24 @@ unsigned_entries app most p main e = record { entries = entries_of main 0 (take 
       subst (λ z. In f (entries_of main 0 z)) (sym all)
       (entries_have main 0 app.functions f d g (of_both (nat_eq d.«module» main) (is_entry (head_of d)) (number_same d.«module» main m) (of_both (is_page (head_of d)) (are_linkable (types_of d.params)) ((pages_decided (head_of d)).1 page) l)) f q)
 
-entered_by : (app : Typed) (most : ℕ) (p : Place) (main : ℕ) → length app.functions ≡ p.functions → (signature : Option Signature) → ((s : Signature) → signature ≡ Some s → SignatureFits app most p s) → Entered app most p main signature
+pub entered_by : (app : Typed) (most : ℕ) (p : Place) (main : ℕ) → length app.functions ≡ p.functions → (signature : Option Signature) → ((s : Signature) → signature ≡ Some s → SignatureFits app most p s) → Entered app most p main signature
 entered_by app most p main e None k = unsigned_entries app most p main e
 entered_by app most p main e (Some s) k = signed_entries app most p main e s (k s refl)
 
 -- ---- routes
 
-zip_map : {A B : Type 0} (P Q : A → B → Type 0) → ((x : A) (y : B) → P x y → Q x y) → (xs : List A) (ys : List B) → AllZip P xs ys → AllZip Q xs ys
+pub zip_map : {A B : Type 0} (P Q : A → B → Type 0) → ((x : A) (y : B) → P x y → Q x y) → (xs : List A) (ys : List B) → AllZip P xs ys → AllZip Q xs ys
 zip_map P Q f [] [] a = tt
 zip_map P Q f [] (y ∷ ys) a = absurd a
 zip_map P Q f (x ∷ xs) [] a = absurd a
 zip_map P Q f (x ∷ xs) (y ∷ ys) a = (f x y a.0, zip_map P Q f xs ys a.1)
 
 module _ (app : Typed) (most : ℕ) (p : Place) (main : ℕ) (signature : Option Signature) (k : Entered app most p main signature) (os all : List Occurrence) (there : (o : Occurrence) → Contains os o → Contains all o) (back : (o : Occurrence) → Contains all o → Contains os o) where
-  got_linked : (f : ℕ) → IsGot app p main signature os f → IsLinked k.entries all f
+  pub got_linked : (f : ℕ) → IsGot app p main signature os f → IsLinked k.entries all f
   got_linked f (source.IsGot.entry i) = inl (contains-in f k.entries (k.back f i))
   got_linked f (source.IsGot.linked c) = inr (there (link f) c)
 
-  linked_got : (f : ℕ) → IsLinked k.entries all f → IsGot app p main signature os f
+  pub linked_got : (f : ℕ) → IsLinked k.entries all f → IsGot app p main signature os f
   linked_got f (inl c) = source.IsGot.entry (k.forth f (in-contains f k.entries c))
   linked_got f (inr c) = source.IsGot.linked (back (link f) c)
 
@@ -276,13 +277,13 @@ typed_is_given most names modules signature app x =
 
 -- ---- what follows
 
-same_names : (most : ℕ) (names : List (List ℕ)) (modules : List Module) (signature : Option Signature) (fields : List (List ℕ)) (app : Typed) → AreNames modules fields → IsTypedWithin most names modules signature app → app.names ≡ fields
+same_names : (most : ℕ) (names : List (List ℕ)) (modules : List Module) (signature : Option Signature) (fields : List (List ℕ)) (app : Typed) → AreFieldNames modules fields → IsTypedWithin most names modules signature app → app.names ≡ fields
 same_names most names modules signature fields app n x =
     same_rising NameBefore names_turn app.names fields (rises NameBefore app.names x.names_rise) (rises NameBefore fields n.rise) (λ z i. in-contains z fields ((n.occur z).1 ((x.names_occur z).0 (contains-in z app.names i)))) (λ z i. in-contains z app.names ((x.names_occur z).1 ((n.occur z).0 (contains-in z fields i))))
 
-given_at : (most : ℕ) (names : List (List ℕ)) (modules : List Module) (signature : Option Signature) (fields : List (List ℕ)) (app : Typed) → AreNames modules fields → (x : IsTypedWithin most names modules signature app) →
-    (k : IsGiven most names modules signature app) → project_out most (nothing_yet (nothing_declared fields)) names modules signature ≡ Some (k.behind, k.entries)
-given_at most names modules signature fields app n x k = subst (λ z. project_out most (nothing_yet (nothing_declared z)) names modules signature ≡ Some (k.behind, k.entries)) (same_names most names modules signature fields app n x) k.given
+given_at : (most : ℕ) (names : List (List ℕ)) (modules : List Module) (signature : Option Signature) (fields : List (List ℕ)) (app : Typed) → AreFieldNames modules fields → (x : IsTypedWithin most names modules signature app) →
+    (k : IsGiven most names modules signature app) → project_out most (begun fields) names modules signature ≡ Some (k.behind, k.entries)
+given_at most names modules signature fields app n x k = subst (λ z. project_out most (begun z) names modules signature ≡ Some (k.behind, k.entries)) (same_names most names modules signature fields app n x) k.given
 
 pub none_has_no_source : NoneHasNoSource
 none_has_no_source most names modules signature fields app n h x = some_none (sym (given_at most names modules signature fields app n x (typed_is_given most names modules signature app x)) ∙ h)

@@ -52,7 +52,7 @@ use Rattle.ur_type_rules.specs.Rules.{small_type, written_type, param_out, and_p
 use Rattle.ur_type_rules.proofs.Options.{some_of, then_some}
 use Rattle.ur_typed.specs.Resolves.{IsParam}
 use Rattle.ur_typed.specs.Resolves as resolves
-use Rattle.ur_typed.specs.Project.{Place, env_at, names_at, at, with_entry, with_function, with_val, with_variant, with_table, with_sequence, with_cookie, written_keys, AreConParams, AreParams, FunctionResolves, FunctionsResolve, AreNamed, VariantsResolve, DeclResolves}
+use Rattle.ur_typed.specs.Project.{Place, env_at, names_at, with_entry, with_function, with_val, with_variant, with_table, with_sequence, with_cookie, written_keys, AreConParams, AreParams, FunctionResolves, FunctionsResolve, AreNamed, VariantsResolve, DeclResolves}
 use Rattle.ur_typed.specs.Project as project
 use Rattle.ur_typed.specs.Declaring.{FunctionHead, Sofar, world_behind, top_scope, counted, defined_out, argument_out, with_constructor, variant_out, variants_out, with_datatype, shape_with, keyed_shape, columns_shape, shape_out, with_shape, full_name, table_out, with_named_sequence, with_named_cookie, cookie_out, and_con, small_row, con_params_out, all_params_out, con_param_fits, head_fits, fitting, heading, Heading, resulting, written_heading, heading_out, with_head, headings_out, val_type_out, with_val_of, decl_out}
 use Rattle.ur_whole_laws.proofs.Walked.{so_true, and_true, within}
@@ -108,7 +108,7 @@ apart_is env (normal.Type t) h = test_of_rows env.known t h
 apart_is env (normal.Row r) h = of_both (are_apart env.known r) (row_rows_are_apart env.known r) ((one_row env.known r).1 h.0) (within_is env r h.1)
 apart_is env _ h = refl
 
-defined_is : (app : Typed) (most : ℕ) (p : Place) (x : List ℕ) (k : Kind) (c : Con) (n : Normal) → IsWritten most (env_at p) c k n → con_is_apart nothing_in_scope n → defined_out most x k c (sofar app p) ≡ Some (sofar app (with_entry x k (meaning.Defined c) p))
+defined_is : (app : Typed) (most : ℕ) (p : Place) (x : List ℕ) (k : Kind) (c : Con) (n : Normal) → IsWritten most (env_at p) c n → con_is_apart nothing_in_scope n → defined_out most x k c (sofar app p) ≡ Some (sofar app (with_entry x k (meaning.Defined c) p))
 defined_is app most p x k c n w a =
     let m : Normal = nf (env_at p) c in
     let i : nat_le (nodes m) most ≡ true = within (nodes m) most (subst (λ z. nodes z ≤ most) w.form w.small) in
@@ -134,9 +134,9 @@ with_is app most k p x c t u w h =
 
 variants_are : (app : Typed) (most k : ℕ) → All (VariantIsTyped app) app.variants → (p : Place) (vs : List WrittenVariant) (q : Place) → VariantsResolve app most k p vs q → variants_out most k vs (sofar app p) ≡ Some (sofar app q)
 variants_are app most k u p _ _ project.VariantsResolve.none = refl
-variants_are app most k u p _ q (project.VariantsResolve.plain {v = v} {vs = vs} e n h r) =
+variants_are app most k u p _ q (project.VariantsResolve.plain {v = v} {vs = vs} e h r) =
     then_some (variants_out most k vs) _ (sofar app (with_variant v.name p)) _ (ap (λ z. variant_out most k v.name z (sofar app p)) e ∙ plain_is app most k p v.name h) (variants_are app most k u (with_variant v.name p) vs q r)
-variants_are app most k u p _ q (project.VariantsResolve.with {v = v} {vs = vs} {c = c} {t = t} e w n h r) =
+variants_are app most k u p _ q (project.VariantsResolve.with {v = v} {vs = vs} {c = c} {t = t} e w h r) =
     then_some (variants_out most k vs) _ (sofar app (with_variant v.name p)) _ (ap (λ z. variant_out most k v.name z (sofar app p)) e ∙ with_is app most k p v.name c t u w h) (variants_are app most k u (with_variant v.name p) vs q r)
 
 abbrev a_datatype : ℕ → List ℕ → Datatype
@@ -194,7 +194,7 @@ cookie_is app most p x c k w h =
 
 cons_are : {most : ℕ} {names after : Names} {ps : List WrittenConParam} {out : List ConParam} → AreConParams most names ps after out → con_params_out most names ps ≡ Some (after, out)
 cons_are project.AreConParams.none = refl
-cons_are (project.AreConParams.kinded {k = k} h xs) = ap (option_map (and_con (con_param.Kinded k))) (cons_are xs)
+cons_are (project.AreConParams.kinded {k = k} xs) = ap (option_map (and_con (con_param.Kinded k))) (cons_are xs)
 cons_are (project.AreConParams.apart {r = r} {s = s} wr ws xs) = then_some _ _ r _ (small_row_is wr) (then_some _ _ s _ (small_row_is ws) (ap (option_map (and_con (con_param.Apart r s))) (cons_are xs)))
 
 param_is : {most : ℕ} {names : Names} {p : WrittenParam} {l : Local} {q : Param} → IsParam most names p l q → param_out most names p ≡ Some (l, q)
@@ -234,11 +234,11 @@ with_head_is app home p f d h g m n e =
 
 pub named_names : (p : Place) (fs : List FunDef) (q : Place) → AreNamed p fs q → names_at q ≡ names_at p
 named_names p _ _ project.AreNamed.none = refl
-named_names p _ q (project.AreNamed.one {f = f} {fs = fs} h x) = named_names (with_function f.name p) fs q x
+named_names p _ q (project.AreNamed.one {f = f} {fs = fs} x) = named_names (with_function f.name p) fs q x
 
 headings_are : (app : Typed) (most home : ℕ) → AppIsTyped most app → (r p : Place) (n : ℕ) (fs : List FunDef) (q : Place) → FunctionsResolve app most home r n fs → AreNamed p fs q → names_at r ≡ names_at p → n ≡ p.functions → headings_out most home fs (sofar app p) ≡ Some (sofar app q)
 headings_are app most home t r p n _ _ project.FunctionsResolve.none project.AreNamed.none e i = refl
-headings_are app most home t r p n _ q (project.FunctionsResolve.one {f = f} {d = d} {fs = fs} g x xs) (project.AreNamed.one h y) e i =
+headings_are app most home t r p n _ q (project.FunctionsResolve.one {f = f} {d = d} {fs = fs} g x xs) (project.AreNamed.one y) e i =
     let u : FunctionIsTyped (declared_of app) most d = all_at (FunctionIsTyped (declared_of app) most) app.functions n d t.functions g in
     let k : heading_out most (names_at p) f ≡ Some (heading_of x) = subst (λ z. heading_out most z f ≡ Some (heading_of x)) e (heading_is x u.head) in
     let l : with_head home f (sofar app p) (heading_of x) ≡ sofar app (with_function f.name p) = with_head_is app home p f d (heading_of x) (subst (λ z. slice_get app.functions z ≡ Some d) i g) x.place x.name refl in
@@ -255,17 +255,17 @@ with_val_is app p x t h =
 
 -- a declaration in a module
 pub decl_is : (app : Typed) (most home : ℕ) → AppIsTyped most app → (p : Place) (d : DeclForm) (q : Place) → slice_get app.modules home ≡ Some p.globals.home → DeclResolves app most home p d q → decl_out most home d (sofar app p) ≡ Some (sofar app q)
-decl_is app most home t p _ _ m (project.DeclResolves.con {x = x} {k = k} {c = c} {n = n} h i j l) = defined_is app most p x k c n j l
-decl_is app most home t p _ _ m (project.DeclResolves.type_ {x = x} {c = c} {n = n} h i j) = defined_is app most p x kind.Star c n i j
-decl_is app most home t p _ q m (project.DeclResolves.datatype {x = x} {vs = vs} h i r) = ap (variants_out most p.datatypes vs) (datatype_is app home x p i) ∙ variants_are app most p.datatypes t.variants (behind_datatype x p) vs q r
-decl_is app most home t p _ _ m (project.DeclResolves.table {x = x} {m = n} {c = c} {primary = primary} {cs = cs} {t = u} {shape = s} w h i f l) =
+decl_is app most home t p _ _ m (project.DeclResolves.con {x = x} {k = k} {c = c} {n = n} h i) = defined_is app most p x k c n h i
+decl_is app most home t p _ _ m (project.DeclResolves.type_ {x = x} {c = c} {n = n} h i) = defined_is app most p x kind.Star c n h i
+decl_is app most home t p _ q m (project.DeclResolves.datatype {x = x} {vs = vs} h r) = ap (variants_out most p.datatypes vs) (datatype_is app home x p h) ∙ variants_are app most p.datatypes t.variants (behind_datatype x p) vs q r
+decl_is app most home t p _ _ m (project.DeclResolves.table {x = x} {m = n} {c = c} {primary = primary} {cs = cs} {t = u} {shape = s} w h i l) =
     let e : n ≡ p.globals.home = some_of (sym h ∙ m) in table_is app most p x c primary cs u s w (subst (λ z. IsTable (full_name (record (sofar app p) { place = record p { globals = record p.globals { home = z } } }) x) (normal.Type u) (written_keys primary cs) s) e i)
-decl_is app most home t p _ _ m (project.DeclResolves.sequence {x = x} {m = n} h i l) =
+decl_is app most home t p _ _ m (project.DeclResolves.sequence {x = x} {m = n} i l) =
     let e : n ≡ p.globals.home = some_of (sym i ∙ m) in
     ap (λ z. Some z) (sequence_is app p x (l ∙ ap (λ z. Some (full_name (record (sofar app p) { place = record p { globals = record p.globals { home = z } } }) x)) e))
-decl_is app most home t p _ _ m (project.DeclResolves.cookie {x = x} {m = n} {c = c} {k = k} h w i l) =
+decl_is app most home t p _ _ m (project.DeclResolves.cookie {x = x} {m = n} {c = c} {k = k} w i l) =
     let e : n ≡ p.globals.home = some_of (sym i ∙ m) in
     cookie_is app most p x c k w (l ∙ ap (λ z. Some (full_name (record (sofar app p) { place = record p { globals = record p.globals { home = z } } }) x, k)) e)
-decl_is app most home t p _ _ m (project.DeclResolves.val {x = x} {c = c} {d = d} h w r l) =
+decl_is app most home t p _ _ m (project.DeclResolves.val {x = x} {c = c} {d = d} w r l) =
     ap (option_map (with_val_of x (sofar app p))) (val_type_is app most p c d.of w (t.vals p.vals d l).written (t.vals p.vals d l).placed) ∙ ap (λ z. Some z) (with_val_is app p x d.of (slice_get-map val_of app.vals p.vals ∙ ap (option_map val_of) l))
 decl_is app most home t p _ q m (project.DeclResolves.functions {fs = fs} n r) = headings_are app most home t q p p.functions fs q r n (named_names p fs q n) refl

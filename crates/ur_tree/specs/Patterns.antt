@@ -1,5 +1,5 @@
 -- The patterns of a `case`.
-use Rattle.std.specs.Prelude.{ℕ, ◌+◌, ◌==◌, ◌||◌, Bool, true, false, IsTrue, if◌then◌else◌, List, [], ◌∷◌, Option, Some, None, option_and_then, option_to_list, slice_get, bytes_eq}
+use Rattle.std.specs.Prelude.{ℕ, ◌+◌, ◌==◌, ◌||◌, ◌&&◌, Bool, true, false, IsTrue, if◌then◌else◌, List, [], ◌∷◌, Option, Some, None, option_and_then, option_to_list, slice_get, bytes_eq}
 use Rattle.std.specs.Ordering.{int_eq}
 use Rattle.std.specs.List.{IsDistinct, list_any, list_all}
 use Rattle.ur_terms.specs.declared.term.Pattern.{Pattern}
@@ -91,9 +91,14 @@ last_is_any [] = false
 last_is_any (p ∷ []) = same_pattern p pattern.Any
 last_is_any (p ∷ ps) = last_is_any ps
 
+abbrev pub are_some : List Pattern → Bool
+are_some [] = false
+are_some (p ∷ ps) = true
+
+-- each of the constructors has a branch, and there is one
 abbrev pub has_all : Option (List Pattern) → List Pattern → Bool
 has_all None ps = false
-has_all (Some cs) ps = list_all (λ c. list_any (same_pattern c) ps) cs
+has_all (Some cs) ps = are_some ps && list_all (λ c. list_any (same_pattern c) ps) cs
 
 -- No pattern comes twice; each constructor of the type is there, or the last pattern is `Any`.
 pub record Covers (d : Declared) (t : NormalType) (ps : List Pattern) : Type 0 where

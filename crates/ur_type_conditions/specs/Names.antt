@@ -12,8 +12,6 @@ use Rattle.ur_syntax.specs.declared.exp.Binder.TheVariants as binder
 use Rattle.ur_syntax.specs.declared.sql.DeclName.{DeclName}
 use Rattle.ur_rows.specs.Types.{holds_arrow}
 use Rattle.ur_tree.specs.declared.exp.Param.{Param}
-use Rattle.ur_syntax.specs.HasKind.{HasKind, IsName, scope_in}
-use Rattle.ur_syntax.specs.declared.kind.Kind.TheVariants as kind
 use Rattle.ur_values.specs.declared.schema.Schema.{Schema}
 use Rattle.ur_rows.specs.declared.normal.Normal.{Normal}
 use Rattle.ur_rows.specs.declared.normal.Label.{Label}
@@ -73,21 +71,21 @@ with_local l names = record { cons = names.cons; locals = l ∷ names.locals }
 abbrev pub with_locals : List Local → Names → Names
 with_locals ls names = record { cons = names.cons; locals = ls ++ names.locals }
 
--- the written constructor has the kind and this normal form, of at most `most` nodes
-pub record IsWritten (most : ℕ) (env : ConEnv) (c : Con) (k : Kind) (n : Normal) : Type 0 where
-  pub kinded : HasKind (scope_in env) c.form k
+-- The written constructor has this normal form, of at most `most` nodes. That its names are in scope and that it has its kind is said of
+-- the whole project (ur_names, ur_kinded).
+pub record IsWritten (most : ℕ) (env : ConEnv) (c : Con) (n : Normal) : Type 0 where
   pub form : n ≡ nf env c
   pub small : nodes n ≤ most
 
 -- the type, the row, or the label that is written
 abbrev pub WritesType : ℕ → ConEnv → Con → NormalType → Type 0
-WritesType most env c t = (n : Normal) × IsWritten most env c kind.Star n × (t ≡ as_type n)
+WritesType most env c t = (n : Normal) × IsWritten most env c n × (t ≡ as_type n)
 
 abbrev pub WritesRow : ℕ → ConEnv → Con → List Part → Type 0
-WritesRow most env c r = (n : Normal) × IsWritten most env c kind.Row n × (r ≡ as_row n)
+WritesRow most env c r = (n : Normal) × IsWritten most env c n × (r ≡ as_row n)
 
 abbrev pub WritesLabel : ConEnv → FieldName → Label → Type 0
-WritesLabel env x l = IsName (scope_in env) x × (l ≡ label_of (known_in env) x)
+WritesLabel env x l = l ≡ label_of (known_in env) x
 
 -- the names of locals are distinct
 pub data Binds : Local → List ℕ → Type 0 where

@@ -91,8 +91,10 @@ repeated_of (p ∷ ps) h = elim (both_false (list_all (λ q. not (same_pattern p
 
 missing_of : (w : World) (u : NormalType) (ps : List Pattern) (cs : Option (List Pattern)) → constructors_of w.declared u ≡ cs → has_all cs ps ≡ false → (name : List ℕ) × IsMissing w u ps name
 missing_of w u ps None ec h = (_, patterns.any ec)
-missing_of w u ps (Some cs) ec h =
-    let c : (c : Pattern) × In c cs × (list_any (same_pattern c) ps ≡ false) = not_all_is (λ c. list_any (same_pattern c) ps) cs h in (_, patterns.constructor ec (contains-in c.0 cs c.1) c.2)
+missing_of w u [] (Some []) ec h = (_, patterns.nothing ec refl)
+missing_of w u [] (Some (c ∷ cs)) ec h = (_, patterns.constructor ec (contains-in c (c ∷ cs) (inl refl)) refl)
+missing_of w u (p ∷ ps) (Some cs) ec h =
+    let c : (c : Pattern) × In c cs × (list_any (same_pattern c) (p ∷ ps) ≡ false) = not_all_is (λ c. list_any (same_pattern c) (p ∷ ps)) cs h in (_, patterns.constructor ec (contains-in c.0 cs c.1) c.2)
 
 pub cover_fails : (w : World) (u : NormalType) (ps : List Pattern) (f : Fault) → BreaksCover w u ps f → covers w.declared u ps ≡ false
 cover_fails w u ps _ (comes_twice {q = q} r) = and_left _ _ (repeated_false ps q r)

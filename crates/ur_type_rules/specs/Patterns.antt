@@ -54,10 +54,12 @@ pub data BreaksPat (names : List (List ℕ)) (w : World) (u : NormalType) (p : P
   unknown_pat : {c : ConName} {text : List ℕ} → NamesConstructor p c text → declared w.globals c w.globals.constructors ≡ None → BreaksPat names w u p (unknown text)
   binds_twice : {q : List Local × Pattern} {name : List ℕ} → pattern_of w.globals p ≡ Some q → IsTwiceIn name (map local_name q.0) → are_distinct q.0 ≡ false → BreaksPat names w u p (twice name)
 
--- a constructor of the type that is not among the patterns, or any value where none of its constructors can be all
+-- a constructor of the type that is not among the patterns, or any value where none of its constructors can be all, or where there are none
+-- of either
 pub data IsMissing (w : World) (u : NormalType) (qs : List Pattern) : List ℕ → Type 0 where
   constructor : {cs : List Pattern} {c : Pattern} → constructors_of w.declared u ≡ Some cs → Contains cs c → IsFalse (list_any (same_pattern c) qs) → IsMissing w u qs (called w c)
   any : constructors_of w.declared u ≡ None → IsMissing w u qs (codes "_")
+  nothing : constructors_of w.declared u ≡ Some [] → qs ≡ [] → IsMissing w u qs (codes "_")
 
 -- a pattern that a later one repeats
 pub data IsRepeated : List Pattern → Pattern → Type 0 where

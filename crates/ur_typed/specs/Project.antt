@@ -65,13 +65,6 @@ names_at p = record { cons = env_at p; locals = [] }
 abbrev pub at : Place → List ℕ → ConName
 at p x = record { home = Some p.globals.home; name = x }
 
--- no constructor, or no function or `val`, of this module has the name yet
-abbrev pub ConIsNew : Place → List ℕ → Type 0
-ConIsNew p x = looked_up (at p x) (scope_in (env_at p)).names ≡ None
-
-abbrev pub IsNew : {A : Type 0} → List (ConName × A) → ConName → Type 0
-IsNew known x = looked_up x known ≡ None
-
 abbrev pub with_entry : List ℕ → Kind → ConMeaning → Place → Place
 with_entry x k m p = record p { cons = p.cons ++ record { name = at p x; kind = k; meaning = m } ∷ [] }
 
@@ -98,10 +91,10 @@ statements app = record { names = app.names; queries = app.queries; changes = ap
 
 -- ---- functions
 
--- constructor parameters, with the scope behind them; each is a new name of a kind that is no arrow
+-- constructor parameters, with the scope behind them
 pub data AreConParams (most : ℕ) : Names → List WrittenConParam → Names → List ConParam → Type 0 where
   none : {names : Names} → AreConParams most names [] names []
-  kinded : {names after : Names} {x : List ℕ} {k : Kind} {cons : List WrittenConParam} {out : List ConParam} → IsTrue (is_plain k) →
+  kinded : {names after : Names} {x : List ℕ} {k : Kind} {cons : List WrittenConParam} {out : List ConParam} →
       AreConParams most (with_con x k names) cons after out → AreConParams most names (written_con.Kinded x k ∷ cons) after (con_param.Kinded k ∷ out)
   apart : {names after : Names} {c d : Con} {r s : List Part} {cons : List WrittenConParam} {out : List ConParam} → WritesRow most names.cons c r → WritesRow most names.cons d s →
       AreConParams most names cons after out → AreConParams most names (written_con.Disjoint c d ∷ cons) after (con_param.Apart r s ∷ out)
@@ -111,17 +104,11 @@ pub data AreParams (most : ℕ) (names : Names) : List WrittenParam → List Loc
   one : {p : WrittenParam} {l : Local} {q : Param} {params : List WrittenParam} {ls : List Local} {out : List Param} → IsParam most names p l q → AreParams most names params ls out →
       AreParams most names (p ∷ params) (l ∷ ls) (q ∷ out)
 
-abbrev pub con_name : WrittenConParam → Option (List ℕ)
-con_name (written_con.Kinded x k) = Some x
-con_name (written_con.Disjoint c d) = None
-
 pub record FunctionResolves (app : Typed) (most : ℕ) (home : ℕ) (p : Place) (f : FunDef) (d : Function) : Type 0 where
   pub after : Names
   pub locals : List Local
   pub cons : AreConParams most (names_at p) f.con_params after d.cons
   pub params : AreParams most after f.params locals d.params
-  pub distinct_cons : AllPairs (λ x y. x ≢ y) (filter_map con_name f.con_params)
-  pub distinct : AreDistinct locals
   pub result : WritesType most after.cons f.result d.result
   pub body : Resolves (statements app) most p.globals (declared_of app) (record { cons = after.cons; locals = locals }) f.body.form d.body
   pub name : d.name ≡ f.name
@@ -130,7 +117,7 @@ pub record FunctionResolves (app : Typed) (most : ℕ) (home : ℕ) (p : Place) 
 -- the functions of a group see one another
 pub data AreNamed : Place → List FunDef → Place → Type 0 where
   none : {p : Place} → AreNamed p [] p
-  one : {p q : Place} {f : FunDef} {fs : List FunDef} → IsNew p.globals.values (at p f.name) → AreNamed (with_function f.name p) fs q → AreNamed p (f ∷ fs) q
+  one : {p q : Place} {f : FunDef} {fs : List FunDef} → AreNamed (with_function f.name p) fs q → AreNamed p (f ∷ fs) q
 
 pub data FunctionsResolve (app : Typed) (most : ℕ) (home : ℕ) (p : Place) : ℕ → List FunDef → Type 0 where
   none : {n : ℕ} → FunctionsResolve app most home p n []
@@ -141,10 +128,10 @@ pub data FunctionsResolve (app : Typed) (most : ℕ) (home : ℕ) (p : Place) : 
 
 pub data VariantsResolve (app : Typed) (most : ℕ) (datatype : ℕ) : Place → List WrittenVariant → Place → Type 0 where
   none : {p : Place} → VariantsResolve app most datatype p [] p
-  plain : {p q : Place} {v : WrittenVariant} {vs : List WrittenVariant} → v.con ≡ None → IsNew p.globals.constructors (at p v.name) →
+  plain : {p q : Place} {v : WrittenVariant} {vs : List WrittenVariant} → v.con ≡ None →
       slice_get app.variants p.variants ≡ Some (record { datatype = datatype; name = v.name; arg = None }) → VariantsResolve app most datatype (with_variant v.name p) vs q →
       VariantsResolve app most datatype p (v ∷ vs) q
-  with : {p q : Place} {v : WrittenVariant} {vs : List WrittenVariant} {c : Con} {t : NormalType} → v.con ≡ Some c → WritesType most (env_at p) c t → IsNew p.globals.constructors (at p v.name) →
+  with : {p q : Place} {v : WrittenVariant} {vs : List WrittenVariant} {c : Con} {t : NormalType} → v.con ≡ Some c → WritesType most (env_at p) c t →
       slice_get app.variants p.variants ≡ Some (record { datatype = datatype; name = v.name; arg = Some t }) → VariantsResolve app most datatype (with_variant v.name p) vs q →
       VariantsResolve app most datatype p (v ∷ vs) q
 
@@ -160,23 +147,22 @@ written_keys (Some columns) cs = written_key true columns ∷ map (λ c. written
 
 -- the declaration in module number `home`, and what is seen after it
 pub data DeclResolves (app : Typed) (most : ℕ) (home : ℕ) : Place → DeclForm → Place → Type 0 where
-  con : {p : Place} {x : List ℕ} {k : Kind} {c : Con} {n : Normal} → ConIsNew p x → IsTrue (is_kind k) → IsWritten most (env_at p) c k n → con_is_apart nothing_in_scope n →
+  con : {p : Place} {x : List ℕ} {k : Kind} {c : Con} {n : Normal} → IsWritten most (env_at p) c n → con_is_apart nothing_in_scope n →
       DeclResolves app most home p (decl.Con x k c) (with_entry x k (meaning.Defined c) p)
-  type_ : {p : Place} {x : List ℕ} {c : Con} {n : Normal} → ConIsNew p x → IsWritten most (env_at p) c kind.Star n → con_is_apart nothing_in_scope n →
+  type_ : {p : Place} {x : List ℕ} {c : Con} {n : Normal} → IsWritten most (env_at p) c n → con_is_apart nothing_in_scope n →
       DeclResolves app most home p (decl.Type x c) (with_entry x kind.Star (meaning.Defined c) p)
   -- a datatype is in scope of its own constructors
-  datatype : {p q : Place} {x : List ℕ} {vs : List WrittenVariant} → ConIsNew p x → slice_get app.datatypes p.datatypes ≡ Some (record { «module» = home; name = x }) →
+  datatype : {p q : Place} {x : List ℕ} {vs : List WrittenVariant} → slice_get app.datatypes p.datatypes ≡ Some (record { «module» = home; name = x }) →
       VariantsResolve app most p.datatypes (with_entry x kind.Star (meaning.Datatype p.datatypes) (record p { datatypes = p.datatypes + 1 })) vs q → DeclResolves app most home p (decl.Datatype x vs) q
   table : {p : Place} {x m : List ℕ} {c : Con} {primary : Option (List (List ℕ))} {cs : List Constraint} {t : NormalType} {shape : TableShape} →
       WritesType most (env_at p) c t → slice_get app.modules home ≡ Some m → IsTable (name_text (Some m) x) (normal.Type t) (written_keys primary cs) shape →
-      ((s : TableShape) → Contains p.globals.tables.tables s → s.name ≢ shape.name) →
       slice_get app.schema.tables (length p.globals.tables.tables) ≡ Some shape →
       DeclResolves app most home p (decl.Table x c primary cs) (with_table shape p)
-  sequence : {p : Place} {x m : List ℕ} → IsNew p.globals.sequences (at p x) → slice_get app.modules home ≡ Some m → slice_get app.schema.sequences (length p.globals.sequences) ≡ Some (name_text (Some m) x) →
+  sequence : {p : Place} {x m : List ℕ} → slice_get app.modules home ≡ Some m → slice_get app.schema.sequences (length p.globals.sequences) ≡ Some (name_text (Some m) x) →
       DeclResolves app most home p (decl.Sequence x) (with_sequence x p)
-  cookie : {p : Place} {x m : List ℕ} {c : Con} {k : ColumnKind} → IsNew p.globals.cookies (at p x) → WritesType most (env_at p) c (kind_type k) → slice_get app.modules home ≡ Some m →
+  cookie : {p : Place} {x m : List ℕ} {c : Con} {k : ColumnKind} → WritesType most (env_at p) c (kind_type k) → slice_get app.modules home ≡ Some m →
       slice_get app.cookies (length p.globals.cookies) ≡ Some (name_text (Some m) x, k) → DeclResolves app most home p (decl.Cookie x c) (with_cookie x p)
-  val : {p : Place} {x : List ℕ} {c : Con} {e : WrittenExp} {d : ModuleVal} → IsNew p.globals.values (at p x) → WritesType most (env_at p) c d.of →
+  val : {p : Place} {x : List ℕ} {c : Con} {e : WrittenExp} {d : ModuleVal} → WritesType most (env_at p) c d.of →
       Resolves (statements app) most p.globals (declared_of app) (names_at p) e.form d.body → slice_get app.vals p.vals ≡ Some d → DeclResolves app most home p (decl.Val x c e) (with_val x p)
   functions : {p q : Place} {fs : List FunDef} → AreNamed p fs q → FunctionsResolve app most home q p.functions fs → DeclResolves app most home p (decl.Fun fs) q
 

@@ -141,7 +141,7 @@ pub data IsConstructor (g : Globals) : ExpForm → ℕ → Type 0 where
 -- a named function with constructor arguments, each in normal form
 pub data IsFunction (most : ℕ) (g : Globals) (names : Names) : ExpForm → ℕ → List Normal → Type 0 where
   name : {x : ExpForm} {f : ℕ} → IsDeclared g names x (here.function f) → IsFunction most g names x f []
-  applied : {x : ExpForm} {p : Span} {f : ℕ} {args : List Normal} {c : Con} {k : Kind} {n : Normal} → IsFunction most g names x f args → IsWritten most names.cons c k n →
+  applied : {x : ExpForm} {p : Span} {f : ℕ} {args : List Normal} {c : Con} {n : Normal} → IsFunction most g names x f args → IsWritten most names.cons c n →
       IsFunction most g names (e.ConApp' tt (its p x alone) c) f (args ++ n ∷ [])
 
 -- the antiquote with that number
@@ -234,7 +234,7 @@ mutual
         ResolvesAll sites most g heads names _ args _ out → Resolves sites most g heads (with_local (here.value (bound_name x)) names) y b →
         Resolves sites most g heads names (e.QueryX' w s args tt (its p (e.Lambda' (lambda_param.Typed (written_param.Value x c) ∷ []) tt (its o y alone)) alone)) (make.each n q out b)
     fold : {names : Names} {f r : Con} {fn : Normal} {row : List Part} {p q a : Span} {start y : ExpForm} {nm t rest : List ℕ} {left right : Con} {acc : WrittenParam} {l : Local} {out : Param} {start_to step : Exp} →
-        IsWritten most names.cons f (arrow kind.Row kind.Star) fn → WritesRow most names.cons r row →
+        IsWritten most names.cons f fn → WritesRow most names.cons r row →
         (nm ≢ t) × (nm ≢ rest) × (t ≢ rest) → left.form ≡ con.Row' (tt ∷ []) (more (con_field.Bare (field_name.Variable nm)) end) → right.form ≡ con.Var rest →
         IsParam most (with_con rest kind.Row (with_con t kind.Star (with_con nm kind.Name names))) acc l out →
         Resolves sites most g heads names start start_to → Resolves sites most g heads (with_local l (with_con rest kind.Row (with_con t kind.Star (with_con nm kind.Name names)))) y step →

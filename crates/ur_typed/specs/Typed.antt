@@ -77,7 +77,6 @@ pub data IsEntry (app : Typed) (after : Place) (main : ℕ) : Option Signature �
 pub record SignatureFits (app : Typed) (most : ℕ) (after : Place) (s : Signature) : Type 0 where
   pub fits : (v : ValDecl) → Contains s.vals v → (f : ℕ) × (d : Function) × (looked_up (at after v.name) after.globals.values ≡ Some (here.function f)) × (slice_get app.functions f ≡ Some d) ×
       WritesType most (env_at after) v.con (function_type (head_of d)) × IsPage (head_of d) × IsTrue (are_linkable (types_of d.params))
-  pub once : AllPairs (λ v w. v.name ≢ w.name) s.vals
 
 abbrev pub sites_in : List Occurrence → List ℕ
 sites_in [] = []

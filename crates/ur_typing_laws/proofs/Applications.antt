@@ -32,7 +32,7 @@ use Rattle.ur_typed.specs.Resolves as resolves
 use Rattle.ur_typed.specs.Rules.{Sites, Out, Args, no_args, with_first, gives, args_out, call_out, named_call, build_out, with_type, with_argument, built, applied_out, by_head, function_at, function_out, without_arguments, as_function_number, if_unbound, tag_named, if_other, Capital, says_true, says_false, says_none, says_other, capital_of}
 use Rattle.ur_typed.specs.Walking.{typed, spine}
 use Rattle.ur_typed.specs.Faults.{walks}
-use Rattle.ur_typing_laws.specs.Judged.{AreTold, ArgumentsAreTold, IsKinded, Fills, stated, Numbered, IsSound, Sound}
+use Rattle.ur_typing_laws.specs.Judged.{AreTold, ArgumentsAreTold, Fills, stated, Numbered, IsSound, Sound}
 use Rattle.ur_typing_laws.proofs.Sound.{at_most, IsSettled, settled_by, judged_by, sound_at}
 use Rattle.ur_typing_laws.proofs.Further.{is_word}
 use Rattle.ur_type_rules.specs.Rules.{if_so}
@@ -43,7 +43,7 @@ use Rattle.ur_typed.proofs.Shapes.{word_is_not, other_of}
 
 abbrev pub AllSound : World → Scope → List ExpForm → Type 0
 AllSound w s [] = Unit {0}
-AllSound w s (x ∷ xs) = Sound w x × (IsKinded s.names.cons x × AllSound w s xs)
+AllSound w s (x ∷ xs) = Sound w x × AllSound w s xs
 
 -- arguments, each with what it stands for
 pub data ArgsResolve (d : Statements) (w : World) (s : Scope) : List ExpForm → (n : Shape) → Row_of-Resolved (count n) → Type 0 where
@@ -66,8 +66,8 @@ args_sound w s (y ∷ ys) [] k st r h d g = cc
 args_sound w s (y ∷ ys) (t ∷ ts) k st r h d g =
     let c : (o : Out) × (typed w y s st (wants t) ≡ Some o) × (option_map (with_first o.exp) (args_out s (walks w ys) ts o.sites) ≡ Some r) = opened _ _ r h in
     let v : (z : Args × Sites) × (args_out s (walks w ys) ts c.0.sites ≡ Some z) × (with_first c.0.exp z ≡ r) = mapped _ _ r c.2 in
-    let ir : ArgsAreSound w s ys ts c.0.sites d v.0 = args_sound w s ys ts k.1.1 c.0.sites v.0 v.1 d (subst (λ (z : Args × Sites). Fills w d z.1) (sym v.2) g) in
-    let ix : IsSound w y s st (wants t) d c.0 = k.0 s k.1.0 st (wants t) c.0 c.1 d ir.before in
+    let ir : ArgsAreSound w s ys ts c.0.sites d v.0 = args_sound w s ys ts k.1 c.0.sites v.0 v.1 d (subst (λ (z : Args × Sites). Fills w d z.1) (sym v.2) g) in
+    let ix : IsSound w y s st (wants t) d c.0 = k.0 s st (wants t) c.0 c.1 d ir.before in
     subst (λ z. ArgsAreSound w s (y ∷ ys) (t ∷ ts) st d z) v.2 (record { before = ix.before; resolve = one_given ix.resolves ir.resolve; wanted = (t, ts, refl, ix.judged.1, ix.judged.2, ir.wanted); numbered = numbered_both ix.numbered ir.numbered })
 
 -- ---- along a spine
@@ -140,15 +140,15 @@ not_called d w s x b r h = by_call (called (one_more b no_more)) refl where
 abbrev applied_as : Out → Args × Sites → Option Out
 applied_as f r = gives (parameters f.of).1 (make.apply f.exp r.0.0 r.0.1) r.1
 
-static_sound : (w : World) (s : Scope) (st : Sites) (d : Statements) (x y : ExpForm) (ys : List ExpForm) (o : Out) → is_head x ≡ true → Sound w x → IsKinded s.names.cons x → function_at w s x ≡ None → AllSound w s (y ∷ ys) →
+static_sound : (w : World) (s : Scope) (st : Sites) (d : Statements) (x y : ExpForm) (ys : List ExpForm) (o : Out) → is_head x ≡ true → Sound w x → function_at w s x ≡ None → AllSound w s (y ∷ ys) →
     option_and_then (applied_out s (walks w (y ∷ ys))) (typed w x s st finds) ≡ Some o → Fills w d o.sites → SpineSound w s st d x (y ∷ ys) o
-static_sound w s st d x y ys o ih kx kd kept k h g =
+static_sound w s st d x y ys o ih kx kept k h g =
     let c : (i : Out) × (typed w x s st finds ≡ Some i) × (applied_out s (walks w (y ∷ ys)) i ≡ Some o) = opened _ _ o h in
     let v : (r : Args × Sites) × (args_out s (walks w (y ∷ ys)) (parameters c.0.of).0 c.0.sites ≡ Some r) × (applied_as c.0 r ≡ Some o) = opened _ _ o c.2 in
     let z : Out = record { of = (parameters c.0.of).1; exp = make.apply c.0.exp v.0.0.0 v.0.0.1; sites = v.0.1 } in
     let i : z ≡ o = some_of v.2 in
     let ia : ArgsAreSound w s (y ∷ ys) (parameters c.0.of).0 c.0.sites d v.0 = args_sound w s (y ∷ ys) (parameters c.0.of).0 k c.0.sites v.0 v.1 d (subst (λ u. Fills w d u.sites) (sym i) g) in
-    let ix : IsSound w x s st finds d c.0 = kx s kd st finds c.0 c.1 d ia.before in
+    let ix : IsSound w x s st finds d c.0 = kx s st finds c.0 c.1 d ia.before in
     let a : Applies (stated d w).declared w.most s.env (called (one_more c.0.exp no_more)) (λ ps. are_static_at ps v.0.0.1) (Found (stated d w).declared w.most s.env (one_more c.0.exp no_more)) (AreWanted (stated d w).declared w.most s.env v.0.0.1) z.of =
     subst (λ n. Applies (stated d w).declared w.most s.env n (λ ps. are_static_at ps v.0.0.1) (Found (stated d w).declared w.most s.env (one_more c.0.exp no_more)) (AreWanted (stated d w).declared w.most s.env v.0.0.1) z.of)
     (sym (not_called d w s x c.0.exp ix.resolves kept)) (c.0.of, (ix.judged.0, ix.judged.1), ia.wanted, refl) in
@@ -172,7 +172,7 @@ build_sound w s st d x y [] n o r k h g =
     let l : (i : Out) × (typed w y s st (wants c.0.1) ≡ Some i) × (built_as n c.0 i ≡ Some o) = opened _ _ o c.2 in
     let b : Out = record { of = ty.Datatype c.0.0; exp = exp.Tagged' n (Some' tt (one_more l.0.exp no_more)); sites = l.0.sites } in
     let i : b ≡ o = some_of l.2 in
-    let ix : IsSound w y s st (wants c.0.1) d l.0 = k.0 s k.1.0 st (wants c.0.1) l.0 l.1 d (subst (λ u. Fills w d u.sites) (sym i) g) in
+    let ix : IsSound w y s st (wants c.0.1) d l.0 = k.0 s st (wants c.0.1) l.0 l.1 d (subst (λ u. Fills w d u.sites) (sym i) g) in
     subst (λ u. SpineSound w s st d x (y ∷ []) u) i (builds ix.before r ix.resolves refl (v.0, v.1, ap (λ m. ty.Datatype m) (sym q.0), (c.0.1, q.1, (ix.judged.1, ix.judged.2))) (numbered_end ix.numbered))
 
 named_function : (w : World) (s : Scope) (x : List ℕ) (f : ℕ × List Normal) (l : Option (Bool × ℕ)) → local_at x s.names.locals ≡ l → option_map without_arguments (if_unbound l (option_and_then as_function_number (declared w.globals (own x) w.globals.values))) ≡ Some f →
@@ -196,16 +196,16 @@ member_function w s i x f h =
       number_is (val m) n h = cc
 
 -- a named function with its constructor arguments, which have kinds
-pub function_is : (w : World) (s : Scope) (x : ExpForm) → IsKinded s.names.cons x → (f : ℕ × List Normal) → function_at w s x ≡ Some f → IsFunction w.most w.globals s.names x f.0 f.1
-function_is w s (e.Var x) kd f h = named_function w s x f (local_at x s.names.locals) refl h
-function_is w s (e.Member i x) kd f h = member_function w s i x f h
-function_is w s (e.ConApp' _ (its p x alone) c) kd f h =
+pub function_is : (w : World) (s : Scope) (x : ExpForm) (f : ℕ × List Normal) → function_at w s x ≡ Some f → IsFunction w.most w.globals s.names x f.0 f.1
+function_is w s (e.Var x) f h = named_function w s x f (local_at x s.names.locals) refl h
+function_is w s (e.Member i x) f h = member_function w s i x f h
+function_is w s (e.ConApp' _ (its p x alone) c) f h =
     let n : Normal = nf s.names.cons c in
     let q : (g : ℕ × List Normal) × (function_at w s x ≡ Some g) × (with_argument w s c g ≡ Some f) = opened _ _ f h in
     let r : (nat_le (nodes n) w.most ≡ true) × (Some (q.0.0, q.0.1 ++ n ∷ []) ≡ Some f) = opened_if (nat_le (nodes n) w.most) (Some (q.0.0, q.0.1 ++ n ∷ [])) f q.2 in
     subst (λ (z : ℕ × List Normal). IsFunction w.most w.globals s.names (e.ConApp' tt (its p x alone) c) z.0 z.1) (some_of r.1)
-    (resolves.IsFunction.applied {k = kd.1.0} (function_is w s x kd.0 q.0 q.1) (record { kinded = kd.1.1; form = refl; small = at_most (nodes n) w.most r.0 }))
-function_is w s _ kd f h = cc
+    (resolves.IsFunction.applied (function_is w s x q.0 q.1) (record { form = refl; small = at_most (nodes n) w.most r.0 }))
+function_is w s _ f h = cc
 
 -- it is no application, and no constructor of a datatype
 function_head : (w : World) (s : Scope) (x : ExpForm) (f : ℕ × List Normal) → function_at w s x ≡ Some f → is_head x ≡ true
@@ -227,25 +227,25 @@ tag_is w (e.Constructor x) n h = other_tag w x (capital_of x) n refl h
 tag_is w (e.MemberConstructor i x) n h = resolves.IsConstructor.member h
 tag_is w _ n h = cc
 
-by_parts : ArgumentsAreTold → (w : World) (s : Scope) (st : Sites) (d : Statements) (x y : ExpForm) (ys : List ExpForm) (o : Out) (b : Bool) (f : Option (ℕ × List Normal)) (n : Option ℕ) → is_head x ≡ b → function_at w s x ≡ f → tag_named w x ≡ n → Sound w x → IsKinded s.names.cons x → AllSound w s (y ∷ ys) →
+by_parts : ArgumentsAreTold → (w : World) (s : Scope) (st : Sites) (d : Statements) (x y : ExpForm) (ys : List ExpForm) (o : Out) (b : Bool) (f : Option (ℕ × List Normal)) (n : Option ℕ) → is_head x ≡ b → function_at w s x ≡ f → tag_named w x ≡ n → Sound w x → AllSound w s (y ∷ ys) →
     by_head w s st (typed w x) (walks w (y ∷ ys)) b f n ≡ Some o → Fills w d o.sites → SpineSound w s st d x (y ∷ ys) o
-by_parts args w s st d x y ys o b (Some f) n ib ef en kx kd k h g = call_sound args w s st d x y ys f o (function_head w s x f ef) (function_is w s x kd f ef) k h g
-by_parts args w s st d x y ys o b None (Some n) ib ef en kx kd k h g = build_sound w s st d x y ys n o (tag_is w x n en) k h g
-by_parts args w s st d x y ys o true None None ib ef en kx kd k h g = static_sound w s st d x y ys o ib kx kd ef k h g
-by_parts args w s st d x y ys o false None None ib ef en kx kd k h g = cc
+by_parts args w s st d x y ys o b (Some f) n ib ef en kx k h g = call_sound args w s st d x y ys f o (function_head w s x f ef) (function_is w s x f ef) k h g
+by_parts args w s st d x y ys o b None (Some n) ib ef en kx k h g = build_sound w s st d x y ys n o (tag_is w x n en) k h g
+by_parts args w s st d x y ys o true None None ib ef en kx k h g = static_sound w s st d x y ys o ib kx ef k h g
+by_parts args w s st d x y ys o false None None ib ef en kx k h g = cc
 
 -- ---- the whole
 
 -- what stands at the head of a spine gives what an application along it has to be
 abbrev pub SpineIsSound : World → ExpForm → Type 0
-SpineIsSound w x = (s : Scope) → IsKinded s.names.cons x → (st : Sites) (y : ExpForm) (ys : List ExpForm) → AllSound w s (y ∷ ys) → (o : Out) → spine w x s st (typed w x) (walks w (y ∷ ys)) ≡ Some o → (d : Statements) → Fills w d o.sites → SpineSound w s st d x (y ∷ ys) o
+SpineIsSound w x = (s : Scope) (st : Sites) (y : ExpForm) (ys : List ExpForm) → AllSound w s (y ∷ ys) → (o : Out) → spine w x s st (typed w x) (walks w (y ∷ ys)) ≡ Some o → (d : Statements) → Fills w d o.sites → SpineSound w s st d x (y ∷ ys) o
 
 pub head_sound : ArgumentsAreTold → (w : World) (x : ExpForm) → is_applied x ≡ false → Sound w x → SpineIsSound w x
-head_sound args w x a kx s kd st y ys k o h d g =
-    by_parts args w s st d x y ys o (is_head x) (function_at w s x) (tag_named w x) refl refl refl kx kd k (sym (spine_at_head w x s st (typed w x) (walks w (y ∷ ys)) a) ∙ h) g
+head_sound args w x a kx s st y ys k o h d g =
+    by_parts args w s st d x y ys o (is_head x) (function_at w s x) (tag_named w x) refl refl refl kx k (sym (spine_at_head w x s st (typed w x) (walks w (y ∷ ys)) a) ∙ h) g
 
 pub spine_sound : (w : World) (p q : Span) (f a : ExpForm) → SpineIsSound w f → Sound w a → SpineIsSound w (e.App' tt (its p f alone) tt (its q a alone))
-spine_sound w p q f a kf ka s kd st y ys k o h d g = further_sound w s st d p q f a y ys o (kf s kd.0 st a (y ∷ ys) (ka, (kd.1, k)) o h d g)
+spine_sound w p q f a kf ka s st y ys k o h d g = further_sound w s st d p q f a y ys o (kf s st a (y ∷ ys) (ka, k) o h d g)
 
 pub found_checks : (w : World) (s : Scope) (x : Exp) (t : NormalType) → has_rule x ≡ false → Finds w.declared w.most s.env x t → Checks w.declared w.most s.env x t
 found_checks w s x t r f = subst (λ b. ByRule b (Passes w.declared w.most s.env x t) (Finds w.declared w.most s.env x t)) (sym r) f
@@ -263,9 +263,9 @@ whole_sound told w s st m d p q f a o i (builds {n = n} {b = x} b r ra eq fd u) 
     }
 
 pub application_sound : AreTold → (w : World) (p q : Span) (f a : ExpForm) → SpineIsSound w f → Sound w a → Sound w (e.App' tt (its p f alone) tt (its q a alone))
-application_sound told w p q f a kf ka s kd st m o h d g =
+application_sound told w p q f a kf ka s st m o h d g =
     let i : IsSettled w (e.App' tt (its p f alone) tt (its q a alone)) s st m o = settled_by w (e.App' tt (its p f alone) tt (its q a alone)) s st m o h in
-    whole_sound told w s st m d p q f a o i (kf s kd.0 st a [] (ka, (kd.1, tt)) o i.walked d g)
+    whole_sound told w s st m d p q f a o i (kf s st a [] (ka, tt) o i.walked d g)
 
 -- ---- a named function that is not applied
 
@@ -273,7 +273,7 @@ abbrev instance_of : Sites → ℕ × List Normal → Head → Option Out
 instance_of st f h = gives (instance_type f.1 (function_type h)) (exp.Function f.0 f.1) st
 
 pub instance_sound : AreTold → ArgumentsAreTold → (w : World) (p : Span) (x : ExpForm) (c : Con) → Sound w (e.ConApp' tt (its p x alone) c)
-instance_sound told args w p x c s kd st m o h d g =
+instance_sound told args w p x c s st m o h d g =
     let y : ExpForm = e.ConApp' tt (its p x alone) c in
     let a : IsSettled w y s st m o = settled_by w y s st m o h in
     let f : (i : ℕ × List Normal) × (function_at w s y ≡ Some i) × (function_out w s st i ≡ Some o) = opened _ _ o a.walked in
@@ -284,6 +284,6 @@ instance_sound told args w p x c s kd st m o h d g =
     sound_at w y s st m d b o a q.1 g (λ acc fit g'. record {
       before = g';
       numbered = numbered_none st;
-      resolves = resolves.function (function_is w s y kd f.0 f.1);
+      resolves = resolves.function (function_is w s y f.0 f.1);
       judged = judged_by told (stated d w) s m b.exp b.of (l.0, l.1, args s.env l.0.cons f.0.1 t.0, t.1, refl) (l.0, l.1, args s.env l.0.cons f.0.1 t.0, t.1, refl) acc fit;
     })

@@ -29,7 +29,7 @@ use Rattle.ur_typed.specs.Resolves.{Statements, ResolvesBranches, branches_none,
 use Rattle.ur_typed.specs.Resolves as resolves
 use Rattle.ur_typed.specs.Rules.{Sites, Out, gives, Branches, with_branch, branch_within, branch_by}
 use Rattle.ur_typed.specs.Walking.{typed, branches_walk}
-use Rattle.ur_typing_laws.specs.Judged.{BranchesAreKinded, Judged, Fills, stated, Numbered, IsSound, Sound}
+use Rattle.ur_typing_laws.specs.Judged.{Judged, Fills, stated, Numbered, IsSound, Sound}
 use Rattle.ur_typing_laws.proofs.Numbers.{numbered_none, numbered_end, numbered_both}
 use Rattle.ur_typing_laws.proofs.Sound.{IsSettled, settled_by, sound_at}
 use Rattle.ur_type_rules.specs.Rules.{if_so, if_as_many, pattern_of, tag_pattern, binder_local, bound_in}
@@ -153,13 +153,13 @@ constructors_stated d w _ = refl
 pub covers_stated : (d : Statements) (w : World) (u : NormalType) (ps : List Pattern) → covers w.declared u ps ≡ covers (stated d w).declared u ps
 covers_stated d w u ps = ap (λ z. are_once same_pattern ps && (last_is_any ps || has_all z ps)) (constructors_stated d w u)
 
-branches_sound : (w : World) (n : Count) (bs : Row_of-Branch n) → AreSound w bs → (s : Scope) → BranchesAreKinded s.names.cons bs → (u : NormalType) (st : Sites) (m : Mode) (b : Branches) → branches_walk w bs s u st m ≡ Some b → (d : Statements) → Fills w d b.sites → BranchesAreSound w n bs s u st m d b
-branches_sound w _ end_of-Branch k s kd u st finds b h d g = cc
-branches_sound w _ end_of-Branch k s kd u st (wants t) b h d g =
+branches_sound : (w : World) (n : Count) (bs : Row_of-Branch n) → AreSound w bs → (s : Scope) (u : NormalType) (st : Sites) (m : Mode) (b : Branches) → branches_walk w bs s u st m ≡ Some b → (d : Statements) → Fills w d b.sites → BranchesAreSound w n bs s u st m d b
+branches_sound w _ end_of-Branch k s u st finds b h d g = cc
+branches_sound w _ end_of-Branch k s u st (wants t) b h d g =
     let z : Branches = record { of = t; patterns = []; exps = ([], no_branch); sites = st } in
     let i : z ≡ b = some_of h in
     subst (λ v. BranchesAreSound w _ end_of-Branch s u st (wants t) d v) i (record { before = subst (λ v. Fills w d v.sites) (sym i) g; resolves = branches_none; judged = (refl, refl); numbered = numbered_none st })
-branches_sound w _ (more_of-Branch {n = n} t p x rest) k s kd u st m b h d g =
+branches_sound w _ (more_of-Branch {n = n} t p x rest) k s u st m b h d g =
     let again : Rest = λ st' n'. branches_walk w rest s u st' n' in
     let c : (q : List Local × Pattern) × (pattern_of w.globals t.form ≡ Some q) × (branch_by w s u st m (typed w x) again q ≡ Some b) = opened _ _ b h in
     let l : (are_distinct c.0.0 ≡ true) × (option_and_then (branch_within w s st m (typed w x) again c.0) (bound_in w u c.0) ≡ Some b) = opened_if (are_distinct c.0.0) _ b c.2 in
@@ -169,8 +169,8 @@ branches_sound w _ (more_of-Branch {n = n} t p x rest) k s kd u st m b h d g =
     let v : (o : Out) × (typed w x (within_branch c.0.0 r.0 s) st m ≡ Some o) × (option_map (with_branch c.0.1 o) (branches_walk w rest s u o.sites (wants o.of)) ≡ Some b) = opened _ _ b r.2 in
     let y : (z : Branches) × (branches_walk w rest s u v.0.sites (wants v.0.of) ≡ Some z) × (with_branch c.0.1 v.0 z ≡ b) = mapped _ _ b v.2 in
     let g' : Fills w d y.0.sites = subst (λ z. Fills w d z.sites) (sym y.2) g in
-    let ir : BranchesAreSound w n rest s u v.0.sites (wants v.0.of) d y.0 = branches_sound w n rest k.1 s kd.1 u v.0.sites (wants v.0.of) y.0 y.1 d g' in
-    let ix : IsSound w x (within_branch c.0.0 r.0 s) st m d v.0 = k.0 (within_branch c.0.0 r.0 s) kd.0 st m v.0 v.1 d ir.before in
+    let ir : BranchesAreSound w n rest s u v.0.sites (wants v.0.of) d y.0 = branches_sound w n rest k.1 s u v.0.sites (wants v.0.of) y.0 y.1 d g' in
+    let ix : IsSound w x (within_branch c.0.0 r.0 s) st m d v.0 = k.0 (within_branch c.0.0 r.0 s) st m v.0 v.1 d ir.before in
     subst (λ z. BranchesAreSound w _ (more_of-Branch t p x rest) s u st m d z) y.2 (record {
       before = ix.before;
       numbered = numbered_both ix.numbered ir.numbered;
@@ -188,7 +188,7 @@ case_judged w s finds x u b jx jb c acc = ((u, b.patterns, jx, jb, c), acc)
 case_judged w s (wants t) x u b jx jb c acc = (jb.0, (u, b.patterns, jx, jb.1, c), subst (λ v. Accepts w.most (make.cases x b.exps.0 b.exps.1) v) jb.0 acc)
 
 pub case_sound : (w : World) (p : Span) (x : ExpForm) (n : Shape) (bs : Row_of-Branch (count n)) → Sound w x → AreSound w bs → Sound w (e.Case' tt (its p x alone) n bs)
-case_sound w p x n bs kx kb s kd st m o h d g =
+case_sound w p x n bs kx kb s st m o h d g =
     let f : ExpForm = e.Case' tt (its p x alone) n bs in
     let a : IsSettled w f s st m o = settled_by w f s st m o h in
     let c : (i : Out) × (typed w x s st finds ≡ Some i) × (option_and_then (cased_of w i) (branches_walk w bs s i.of i.sites m) ≡ Some o) = opened _ _ o a.walked in
@@ -196,6 +196,6 @@ case_sound w p x n bs kx kb s kd st m o h d g =
     let r : (covers w.declared c.0.of l.0.patterns ≡ true) × (gives l.0.of (make.cases c.0.exp l.0.exps.0 l.0.exps.1) l.0.sites ≡ Some o) = opened_if (covers w.declared c.0.of l.0.patterns) (gives l.0.of (make.cases c.0.exp l.0.exps.0 l.0.exps.1) l.0.sites) o l.2 in
     let b : Out = record { of = l.0.of; exp = make.cases c.0.exp l.0.exps.0 l.0.exps.1; sites = l.0.sites } in
     sound_at w f s st m d b o a r.1 g (λ acc fit g'.
-    let ib : BranchesAreSound w _ bs s c.0.of c.0.sites m d l.0 = branches_sound w _ bs kb s kd.1 c.0.of c.0.sites m l.0 l.1 d g' in
-    let ix : IsSound w x s st finds d c.0 = kx s kd.0 st finds c.0 c.1 d ib.before in
+    let ib : BranchesAreSound w _ bs s c.0.of c.0.sites m d l.0 = branches_sound w _ bs kb s c.0.of c.0.sites m l.0 l.1 d g' in
+    let ix : IsSound w x s st finds d c.0 = kx s st finds c.0 c.1 d ib.before in
     record { before = ix.before; numbered = numbered_both (numbered_end ix.numbered) ib.numbered; resolves = resolves.cases ix.resolves ib.resolves; judged = case_judged (stated d w) s m c.0.exp c.0.of l.0 (ix.judged.0, ix.judged.1) ib.judged ((branches_decided (stated d w).declared c.0.of l.0.patterns).0 (sym (covers_stated d w c.0.of l.0.patterns) ∙ r.0)) acc })

@@ -1,6 +1,6 @@
 -- Elements of XML, and whole literals: what is typed resolves and has its type by the rules.
 use Rattle.std.proofs.Common.{arith, ◌≡◌, ◌∙◌, refl, sym, ap, subst, Bool, true, false, true≢false, Option, Some, None, List, [], ◌∷◌, ◌++◌, ℕ}
-use Rattle.std.specs.Prelude.{◌≤◌, ◌+◌, ◌&&◌, if◌then◌else◌, not, option_map, option_and_then, slice_get, is_none, codes}
+use Rattle.std.specs.Prelude.{◌≤◌, ◌&&◌, if◌then◌else◌, not, option_map, option_and_then, slice_get, is_none, codes}
 use Rattle.std.specs.List.{list_all}
 use mathlib.Core.Former.{Count}
 use Rattle.ur_base.specs.Shape.{Shape, count}
@@ -409,7 +409,7 @@ xml_judged told w s (wants u) n inner o marks t eo et ef i acc fit =
     let q : t ≡ u = told t u fit in (q, (sym q, subst (IsLiteral w s marks) q i), subst (λ z. Accepts w.most (exp.Xml' t marks.0 marks.1) z) q acc)
 
 pub xml_sound : AreTold → (w : World) (x : Xml) (n : Shape) (ss : Row_of-Exp (count n)) (k : Shape) (ats : Row_of-Exp (count k)) → RowIsSound w ss → RowIsSound w ats → TargetsSound w ats → Sound w (e.Xml' x n ss k ats)
-xml_sound told w x n ss k ats ks ka kt s kd st m o h d g =
+xml_sound told w x n ss k ats ks ka kt s st m o h d g =
     let y : ExpForm = e.Xml' x n ss k ats in
     let l : Literal = literal_of w s ss ats in
     let v : IsSettled w y s st m o = settled_by w y s st m o h in
@@ -423,7 +423,7 @@ xml_sound told w x n ss k ats ks ka kt s kd st m o h d g =
     let nodes : 1 ≤ type_nodes t = one_node t in
     let room : 1 ≤ w.most = omega (arith, nodes, acc.0) in
     let i : PartsAreSound w s _ ss _ ats (place_of c.0) _ (row_of_parts x.parts).1 st d u.0 =
-    parts_sound told w s _ ss _ ats (record { splices_sound = ks; splices_kinded = kd.0; attributes_sound = ka; attributes_kinded = kd.1; targets_sound = kt; room = room }) (place_of c.0) _ (row_of_parts x.parts).1 st u.0 u.1 d g' in
+    parts_sound told w s _ ss _ ats (record { splices_sound = ks; attributes_sound = ka; targets_sound = kt; room = room }) (place_of c.0) _ (row_of_parts x.parts).1 st u.0 u.1 d g' in
     let wt : WaitFor [] u.0.waiting = subst (WaitFor []) (sym (i.no_waiting (no_form c.0))) tt in
     let lit : IsLiteral (stated d w) s u.0.marks t = (c.0, u.0.row, sort_is c.0 u.0.row, framed_is l c.0 _ (row_of_parts x.parts).1 st u.0 u.1 q.0, i.marks [] wt, has_fields s.env.known c.0 u.0.row r.0 i.no_fields) in
     record {

@@ -3,7 +3,6 @@ use Rattle.std.proofs.Common.{◌≡◌, ◌≢◌, ◌∙◌, refl, sym, ap, su
 use Rattle.std.specs.Prelude.{◌&&◌, not, nat_le, bytes_eq, option_and_then}
 use Rattle.ur_base.specs.Shape.{Shape, count}
 use Rattle.ur_base.specs.declared.refusal.Span.{Span}
-use Rattle.ur_syntax.specs.Kinds.{arrow}
 use Rattle.ur_syntax.specs.declared.kind.Kind.TheVariants as kind
 use Rattle.ur_syntax.specs.declared.con.Con.{Con}
 use Rattle.ur_syntax.specs.declared.con.ConForm.{ConForm, Row_of-CField, end_of-CField as end, more_of-CField as more}
@@ -27,7 +26,7 @@ use Rattle.ur_tree.specs.declared.exp.Exp.{Exp}
 use Rattle.ur_tree.specs.Make as make
 use Rattle.ur_tree.specs.Env.{Env, IsRow, row_is_plain}
 use Rattle.ur_tree.specs.Typing.{Finds, Checks, Accepts, IsParam, step_rest, step_row, within_step}
-use Rattle.ur_type_conditions.specs.Names.{Local, Names, IsWritten, WritesRow, with_local}
+use Rattle.ur_type_conditions.specs.Names.{Local, IsWritten, WritesRow, with_local}
 use Rattle.ur_type_conditions.specs.Scopes.{World, Scope, wants}
 use Rattle.ur_type_conditions.specs.Tests.{same_type, is_type, is_row, is_param}
 use Rattle.ur_type_conditions.proofs.Rows.{type_decided, row_decided}
@@ -37,7 +36,7 @@ use Rattle.ur_typed.specs.Rules.{Sites, Out, gives}
 use Rattle.ur_typed.specs.Folds.{is_bare_field, is_bare_row, is_variable, step_names_fit, Step, step_form, step_names, step_with, step_by, step_of, step_fits, step_out, fold_types, fold_with}
 use Rattle.ur_typed.specs.Walking.{typed, step_walk}
 use Rattle.ur_typed.specs.Causes.{is_lambda}
-use Rattle.ur_typing_laws.specs.Judged.{AreTold, OfKind, ParamsAreKinded, env_behind, IsKinded, stated, IsSound, Sound}
+use Rattle.ur_typing_laws.specs.Judged.{AreTold, stated, IsSound, Sound}
 use Rattle.ur_typing_laws.proofs.Sound.{at_most, IsSettled, settled_by, judged_by, sound_at}
 use Rattle.ur_typing_laws.proofs.Binding.{param_is, param_static}
 use Rattle.ur_typing_laws.proofs.Numbers.{numbered_end, numbered_both}
@@ -119,17 +118,16 @@ record StepIs (w : World) (s : Scope) (ps : List LambdaParam) (acc : Scope × Pa
   env : acc.0.env ≡ within_step acc.1 s.env
   static : acc.1.fixed ≡ holds_arrow acc.1.of
 
-step_is : (w : World) (s : Scope) (ps : List LambdaParam) → ParamsAreKinded s.names.cons ps → (acc : Scope × Param) → step_of w s ps ≡ Some acc → StepIs w s ps acc
-step_is w s ps k acc h =
+step_is : (w : World) (s : Scope) (ps : List LambdaParam) (acc : Scope × Param) → step_of w s ps ≡ Some acc → StepIs w s ps acc
+step_is w s ps acc h =
     let a : (p : Step) × (step_form ps ≡ Some p) × (step_by w s p ≡ Some acc) = opened _ _ acc h in
     let f : StepForm ps a.0 = step_form_is ps a.0 a.1 in
     let i : (z : Local × Param) × (param_out w.most (step_names a.0 s.names) a.0.acc ≡ Some z) × (step_with s (step_names a.0 s.names) z ≡ acc) = mapped _ _ acc a.2 in
-    let kk : ParamsAreKinded s.names.cons (step_params a.0 f.left f.right) = subst (ParamsAreKinded s.names.cons) f.is k in
     subst (StepIs w s ps) i.2 (record {
       step = a.0;
       local = i.0.0;
       form = f;
-      param = param_is w.most (step_names a.0 s.names) a.0.acc kk.0 i.0 i.1;
+      param = param_is w.most (step_names a.0 s.names) a.0.acc i.0 i.1;
       names = refl;
       env = refl;
       static = param_static w.most (step_names a.0 s.names) a.0.acc i.0 i.1;
@@ -144,14 +142,14 @@ is_param_by env p h f =
 
 record TypesAre (w : World) (s : Scope) (f r : Con) (t : NormalType × List RowPart) : Type 0 where
   function : Normal
-  written : IsWritten w.most s.names.cons f (arrow kind.Row kind.Star) function
+  written : IsWritten w.most s.names.cons f function
   of : t.0 ≡ as_function function
   row : WritesRow w.most s.names.cons r t.1
   is_row : IsRow s.env t.1
   plain : row_is_plain t.1 ≡ true
 
-types_are : (w : World) (s : Scope) (f r : Con) → OfKind s.names.cons f (arrow kind.Row kind.Star) → OfKind s.names.cons r kind.Row → (t : NormalType × List RowPart) → fold_types w s f r ≡ Some t → TypesAre w s f r t
-types_are w s f r kf kr t h =
+types_are : (w : World) (s : Scope) (f r : Con) (t : NormalType × List RowPart) → fold_types w s f r ≡ Some t → TypesAre w s f r t
+types_are w s f r t h =
     let fn : Normal = nf s.names.cons f in
     let n : Normal = nf s.names.cons r in
     let b : Bool = nat_le (nodes n) w.most && (is_row s.env (as_row n) && row_is_plain (as_row n)) in
@@ -162,9 +160,9 @@ types_are w s f r kf kr t h =
     let v : (is_row s.env (as_row n) ≡ true) × (row_is_plain (as_row n) ≡ true) = both_true (is_row s.env (as_row n)) (row_is_plain (as_row n)) u.1 in
     subst (TypesAre w s f r) (some_of q.1) (record {
       function = fn;
-      written = record { kinded = kf; form = refl; small = at_most (nodes fn) w.most c.0 };
+      written = record { form = refl; small = at_most (nodes fn) w.most c.0 };
       of = refl;
-      row = (n, record { kinded = kr; form = refl; small = at_most (nodes n) w.most u.0 }, refl);
+      row = (n, record { form = refl; small = at_most (nodes n) w.most u.0 }, refl);
       is_row = (row_decided s.env (as_row n)).0 v.0;
       plain = v.1;
     })
@@ -184,7 +182,7 @@ abbrev a_fold : Con → Span → List LambdaParam → Span → ExpForm → Span 
 a_fold f p ps a b q start r = e.Fold' f tt (its p (e.Lambda' ps tt (its a b alone)) alone) tt (its q start alone) r
 
 fold_lambda : AreTold → (w : World) (f : Con) (p : Span) (ps : List LambdaParam) (a : Span) (b : ExpForm) (q : Span) (start : ExpForm) (r : Con) → Sound w b → Sound w start → Sound w (a_fold f p ps a b q start r)
-fold_lambda told w f p ps a b q start r kb ks s kd st m o h d g =
+fold_lambda told w f p ps a b q start r kb ks s st m o h d g =
     let y : ExpForm = a_fold f p ps a b q start r in
     let v : IsSettled w y s st m o = settled_by w y s st m o h in
     let t : (i : NormalType × List RowPart) × (fold_types w s f r ≡ Some i) × (fold_with s st (λ of. step_out w s st of ps (typed w b)) (typed w start) i ≡ Some o) = opened _ _ o v.walked in
@@ -194,16 +192,14 @@ fold_lambda told w f p ps a b q start r kb ks s kd st m o h d g =
     let j : (i : Out) × (typed w b u.0.0 st (wants (at_row t.0.0 (step_row s.env))) ≡ Some i) × (stepped u.0 i ≡ Some c.0) = opened _ _ c.0 n.1 in
     let l : (i : Out) × (typed w start s j.0.sites (wants (at_row t.0.0 [])) ≡ Some i) × (folded_at t.0 (u.0.1, j.0) i ≡ Some o) =
     opened _ _ o (subst (λ (z : Param × Out). option_and_then (folded_at t.0 z) (typed w start s z.1.sites (wants (at_row t.0.0 []))) ≡ Some o) (sym (some_of j.2)) c.2) in
-    let x : StepIs w s ps u.0 = step_is w s ps kd.1.0.0.0 u.0 u.1 in
-    let ts : TypesAre w s f r t.0 = types_are w s f r kd.0.0 kd.0.1 t.0 t.1 in
+    let x : StepIs w s ps u.0 = step_is w s ps u.0 u.1 in
+    let ts : TypesAre w s f r t.0 = types_are w s f r t.0 t.1 in
     let nn : NamesFit x.step.nm x.step.t x.step.rest x.form.left x.form.right = names_fit x.step.nm x.step.t x.step.rest x.form.left x.form.right x.form.fit in
     let ft : (is_param u.0.0.env u.0.1 ≡ true) × (same_type u.0.1.of (at_row t.0.0 (step_rest s.env)) ≡ true) = both_true (is_param u.0.0.env u.0.1) (same_type u.0.1.of (at_row t.0.0 (step_rest s.env))) n.0 in
-    let kk : IsKinded (env_behind s.names.cons (step_params x.step x.form.left x.form.right)) b = subst (λ z. IsKinded (env_behind s.names.cons z) b) x.form.is kd.1.0.0.1 in
-    let kz : IsKinded u.0.0.names.cons b = subst (λ (z : Names). IsKinded z.cons b) (sym x.names) kk in
     let out : Out = record { of = at_row t.0.0 t.0.1; exp = make.folded t.0.0 u.0.1 j.0.exp l.0.exp t.0.1; sites = l.0.sites } in
     sound_at w y s st m d out o v l.2 g (λ acc fit g'.
-    let is : IsSound w start s j.0.sites (wants (at_row t.0.0 [])) d l.0 = ks s kd.1.1 j.0.sites (wants (at_row t.0.0 [])) l.0 l.1 d g' in
-    let ib : IsSound w b u.0.0 st (wants (at_row t.0.0 (step_row s.env))) d j.0 = kb u.0.0 kz st (wants (at_row t.0.0 (step_row s.env))) j.0 j.1 d is.before in
+    let is : IsSound w start s j.0.sites (wants (at_row t.0.0 [])) d l.0 = ks s j.0.sites (wants (at_row t.0.0 [])) l.0 l.1 d g' in
+    let ib : IsSound w b u.0.0 st (wants (at_row t.0.0 (step_row s.env))) d j.0 = kb u.0.0 st (wants (at_row t.0.0 (step_row s.env))) j.0 j.1 d is.before in
     let rb : Resolves d w.most w.globals (stated d w).declared (with_local x.local (step_names x.step s.names)) b j.0.exp = subst (λ z. Resolves d w.most w.globals (stated d w).declared z b j.0.exp) x.names ib.resolves in
     let res : Resolves d w.most w.globals (stated d w).declared s.names (a_fold f p (step_params x.step x.form.left x.form.right) a b q start r) (make.folded (as_function ts.function) u.0.1 j.0.exp l.0.exp t.0.1) =
     resolves.fold ts.written ts.row nn.distinct nn.bare_name nn.variable x.param is.resolves rb in
@@ -225,7 +221,7 @@ no_step w s st t p (e.Lambda' ps _ x) h = cc
 no_step w s st t p _ h = refl
 
 fold_other : (w : World) (f : Con) (p : Span) (x : ExpForm) (q : Span) (start : ExpForm) (r : Con) → is_lambda x ≡ false → Sound w (e.Fold' f tt (its p x alone) tt (its q start alone) r)
-fold_other w f p x q start r i s kd st m o h d g =
+fold_other w f p x q start r i s st m o h d g =
     let y : ExpForm = e.Fold' f tt (its p x alone) tt (its q start alone) r in
     let v : IsSettled w y s st m o = settled_by w y s st m o h in
     let t : (z : NormalType × List RowPart) × (fold_types w s f r ≡ Some z) × (fold_with s st (λ of. step_walk w (its p x alone) s st of) (typed w start) z ≡ Some o) = opened _ _ o v.walked in

@@ -41,29 +41,29 @@ abbrev shown_of : Out → Option Out
 shown_of z = gives ty.Str (make.unary unary.Show z.exp) z.sites
 
 pub show_sound : AreTold → (w : World) (p : Span) (x : ExpForm) → Sound w x → Sound w (e.Show' tt (its p x alone))
-show_sound told w p x k s kd st m o h d g =
+show_sound told w p x k s st m o h d g =
     let y : ExpForm = e.Show' tt (its p x alone) in
     let a : IsSettled w y s st m o = settled_by w y s st m o h in
     let c : (z : Out) × (typed w x s st finds ≡ Some z) × (if_so (is_basic z.of) (shown_of z) ≡ Some o) = opened _ _ o a.walked in
     let q : (is_basic c.0.of ≡ true) × (shown_of c.0 ≡ Some o) = opened_if (is_basic c.0.of) (shown_of c.0) o c.2 in
     let b : Out = record { of = ty.Str; exp = make.unary unary.Show c.0.exp; sites = c.0.sites } in
     sound_at w y s st m d b o a q.1 g (λ acc fit g'.
-    let i : IsSound w x s st finds d c.0 = k s kd st finds c.0 c.1 d g' in
+    let i : IsSound w x s st finds d c.0 = k s st finds c.0 c.1 d g' in
     record { before = i.before; numbered = numbered_end i.numbered; resolves = resolves.show i.resolves; judged = judged_by told (stated d w) s m b.exp ty.Str (refl, (c.0.of, (i.judged.0, i.judged.1), q.0)) (refl, (c.0.of, (i.judged.0, i.judged.1), q.0)) acc fit })
 
 abbrev present_of : Out → Option Out
 present_of z = gives (option_of z.of) (make.unary unary.Present z.exp) z.sites
 
 pub some_sound : AreTold → (w : World) (p : Span) (x : ExpForm) → Sound w x → Sound w (e.Some' tt (its p x alone))
-some_sound told w p x k s kd st finds o h d g =
+some_sound told w p x k s st finds o h d g =
     let y : ExpForm = e.Some' tt (its p x alone) in
     let a : IsSettled w y s st finds o = settled_by w y s st finds o h in
     let c : (z : Out) × (typed w x s st finds ≡ Some z) × (present_of z ≡ Some o) = opened _ _ o a.walked in
     let b : Out = record { of = option_of c.0.of; exp = make.unary unary.Present c.0.exp; sites = c.0.sites } in
     sound_at w y s st finds d b o a c.2 g (λ acc fit g'.
-    let i : IsSound w x s st finds d c.0 = k s kd st finds c.0 c.1 d g' in
+    let i : IsSound w x s st finds d c.0 = k s st finds c.0 c.1 d g' in
     record { before = i.before; numbered = numbered_end i.numbered; resolves = resolves.some i.resolves; judged = ((c.0.of, refl, (i.judged.0, i.judged.1)), acc) })
-some_sound told w p x k s kd st (wants t) o h d g =
+some_sound told w p x k s st (wants t) o h d g =
     let y : ExpForm = e.Some' tt (its p x alone) in
     let a : IsSettled w y s st (wants t) o = settled_by w y s st (wants t) o h in
     let c : (z : Out) × (typed w x s st (of_option (wants t)) ≡ Some z) × (present_of z ≡ Some o) = opened _ _ o a.walked in
@@ -71,7 +71,7 @@ some_sound told w p x k s kd st (wants t) o h d g =
     sound_at w y s st (wants t) d b o a c.2 g (λ acc fit g'.
     let q : option_of c.0.of ≡ t = told (option_of c.0.of) t fit in
     let r : typed w x s st (wants c.0.of) ≡ Some c.0 = subst (λ v. typed w x s st (of_option (wants v)) ≡ Some c.0) (sym q) c.1 in
-    let i : IsSound w x s st (wants c.0.of) d c.0 = k s kd st (wants c.0.of) c.0 r d g' in
+    let i : IsSound w x s st (wants c.0.of) d c.0 = k s st (wants c.0.of) c.0 r d g' in
     record {
       before = i.before;
       numbered = numbered_end i.numbered;
@@ -83,15 +83,15 @@ abbrev returned_of : Out → Option Out
 returned_of z = gives (transaction_of z.of) (make.unary unary.Return z.exp) z.sites
 
 pub return_sound : AreTold → (w : World) (p : Span) (x : ExpForm) → Sound w x → Sound w (e.Return' tt (its p x alone))
-return_sound told w p x k s kd st finds o h d g =
+return_sound told w p x k s st finds o h d g =
     let y : ExpForm = e.Return' tt (its p x alone) in
     let a : IsSettled w y s st finds o = settled_by w y s st finds o h in
     let c : (z : Out) × (typed w x s st finds ≡ Some z) × (returned_of z ≡ Some o) = opened _ _ o a.walked in
     let b : Out = record { of = transaction_of c.0.of; exp = make.unary unary.Return c.0.exp; sites = c.0.sites } in
     sound_at w y s st finds d b o a c.2 g (λ acc fit g'.
-    let i : IsSound w x s st finds d c.0 = k s kd st finds c.0 c.1 d g' in
+    let i : IsSound w x s st finds d c.0 = k s st finds c.0 c.1 d g' in
     record { before = i.before; numbered = numbered_end i.numbered; resolves = resolves.return_ i.resolves; judged = ((c.0.of, refl, (i.judged.0, i.judged.1)), acc) })
-return_sound told w p x k s kd st (wants t) o h d g =
+return_sound told w p x k s st (wants t) o h d g =
     let y : ExpForm = e.Return' tt (its p x alone) in
     let a : IsSettled w y s st (wants t) o = settled_by w y s st (wants t) o h in
     let c : (z : Out) × (typed w x s st (of_transaction (wants t)) ≡ Some z) × (returned_of z ≡ Some o) = opened _ _ o a.walked in
@@ -99,7 +99,7 @@ return_sound told w p x k s kd st (wants t) o h d g =
     sound_at w y s st (wants t) d b o a c.2 g (λ acc fit g'.
     let q : transaction_of c.0.of ≡ t = told (transaction_of c.0.of) t fit in
     let r : typed w x s st (wants c.0.of) ≡ Some c.0 = subst (λ v. typed w x s st (of_transaction (wants v)) ≡ Some c.0) (sym q) c.1 in
-    let i : IsSound w x s st (wants c.0.of) d c.0 = k s kd st (wants c.0.of) c.0 r d g' in
+    let i : IsSound w x s st (wants c.0.of) d c.0 = k s st (wants c.0.of) c.0 r d g' in
     record {
       before = i.before;
       numbered = numbered_end i.numbered;
@@ -111,14 +111,14 @@ abbrev failed_of : NormalType → Out → Option Out
 failed_of t z = gives t (make.fail t z.exp) z.sites
 
 pub error_sound : AreTold → (w : World) (p : Span) (x : ExpForm) → Sound w x → Sound w (e.Error' tt (its p x alone))
-error_sound told w p x k s kd st finds o h d g = let a : IsSettled w (e.Error' tt (its p x alone)) s st finds o = settled_by w (e.Error' tt (its p x alone)) s st finds o h in let n : ◌≡◌ {A = Option Out} None (Some o) = a.walked in cc
-error_sound told w p x k s kd st (wants t) o h d g =
+error_sound told w p x k s st finds o h d g = let a : IsSettled w (e.Error' tt (its p x alone)) s st finds o = settled_by w (e.Error' tt (its p x alone)) s st finds o h in let n : ◌≡◌ {A = Option Out} None (Some o) = a.walked in cc
+error_sound told w p x k s st (wants t) o h d g =
     let y : ExpForm = e.Error' tt (its p x alone) in
     let a : IsSettled w y s st (wants t) o = settled_by w y s st (wants t) o h in
     let c : (z : Out) × (typed w x s st (wants ty.Xbody) ≡ Some z) × (failed_of t z ≡ Some o) = opened _ _ o a.walked in
     let b : Out = record { of = t; exp = make.fail t c.0.exp; sites = c.0.sites } in
     sound_at w y s st (wants t) d b o a c.2 g (λ acc fit g'.
-    let i : IsSound w x s st (wants ty.Xbody) d c.0 = k s kd st (wants ty.Xbody) c.0 c.1 d g' in
+    let i : IsSound w x s st (wants ty.Xbody) d c.0 = k s st (wants ty.Xbody) c.0 c.1 d g' in
     record { before = i.before; numbered = numbered_end i.numbered; resolves = resolves.error i.resolves; judged = (refl, (refl, (i.judged.1, i.judged.2)), acc) })
 
 -- ---- three sides
@@ -127,7 +127,7 @@ abbrev chosen_of : Out → Out → Out → Option Out
 chosen_of c y z = gives y.of (make.choice c.exp y.exp z.exp) z.sites
 
 pub if_sound : AreTold → (w : World) (p q r : Span) (x y z : ExpForm) → Sound w x → Sound w y → Sound w z → Sound w (e.If' tt (its p x alone) tt (its q y alone) tt (its r z alone))
-if_sound told w p q r x y z kx ky kz s kd st m o h d g =
+if_sound told w p q r x y z kx ky kz s st m o h d g =
     let v : ExpForm = e.If' tt (its p x alone) tt (its q y alone) tt (its r z alone) in
     let a : IsSettled w v s st m o = settled_by w v s st m o h in
     let c : (i : Out) × (typed w x s st (wants ty.Bool) ≡ Some i) × (option_and_then (λ j. option_and_then (λ l. chosen_of i j l) (typed w z s j.sites (wants j.of))) (typed w y s i.sites m) ≡ Some o) = opened _ _ o a.walked in
@@ -135,9 +135,9 @@ if_sound told w p q r x y z kx ky kz s kd st m o h d g =
     let u : (l : Out) × (typed w z s t.0.sites (wants t.0.of) ≡ Some l) × (chosen_of c.0 t.0 l ≡ Some o) = opened _ _ o t.2 in
     let b : Out = record { of = t.0.of; exp = make.choice c.0.exp t.0.exp u.0.exp; sites = u.0.sites } in
     sound_at w v s st m d b o a u.2 g (λ acc fit g'.
-    let iz : IsSound w z s t.0.sites (wants t.0.of) d u.0 = kz s kd.1.1 t.0.sites (wants t.0.of) u.0 u.1 d g' in
-    let iy : IsSound w y s c.0.sites m d t.0 = ky s kd.1.0 c.0.sites m t.0 t.1 d iz.before in
-    let ix : IsSound w x s st (wants ty.Bool) d c.0 = kx s kd.0 st (wants ty.Bool) c.0 c.1 d iy.before in
+    let iz : IsSound w z s t.0.sites (wants t.0.of) d u.0 = kz s t.0.sites (wants t.0.of) u.0 u.1 d g' in
+    let iy : IsSound w y s c.0.sites m d t.0 = ky s c.0.sites m t.0 t.1 d iz.before in
+    let ix : IsSound w x s st (wants ty.Bool) d c.0 = kx s st (wants ty.Bool) c.0 c.1 d iy.before in
     record { before = ix.before; numbered = numbered_both (numbered_end ix.numbered) (numbered_both (numbered_end iy.numbered) (numbered_end iz.numbered)); resolves = resolves.choice ix.resolves iy.resolves iz.resolves; judged = if_judged told (stated d w) s m c.0.exp t.0.exp u.0.exp t.0.of (ix.judged.1, ix.judged.2) iy.judged (iz.judged.1, iz.judged.2) acc }) where
       if_judged : AreTold → (w : World) (s : Scope) (m : Mode) (c a b : Exp) (t : NormalType) → Checks w.declared w.most s.env c ty.Bool × Accepts w.most c ty.Bool → Judged w s m a t → Checks w.declared w.most s.env b t × Accepts w.most b t → Accepts w.most (make.choice c a b) t →
           Judged w s m (make.choice c a b) t
@@ -157,7 +157,7 @@ abbrev next_of : Sites → ℕ → Option Out
 next_of st n = gives (transaction_of ty.Int) (exp.Next n) st
 
 pub next_sound : AreTold → (w : World) (x : DeclName) → Sound w (e.Nextval x)
-next_sound told w x s kd st m o h d g =
+next_sound told w x s st m o h d g =
     let y : ExpForm = e.Nextval x in
     let a : IsSettled w y s st m o = settled_by w y s st m o h in
     let c : (n : ℕ) × (declared w.globals (name_of x) w.globals.sequences ≡ Some n) × (if_so (nat_lt n w.declared.sequences) (next_of st n) ≡ Some o) = opened _ _ o a.walked in
@@ -176,7 +176,7 @@ bind_judged w s (wants q) x a b t u v r er et ja jb acc =
     (jb.0, (u, v, subst (λ z. Finds w.declared w.most s.env a z × Accepts w.most a z) er ja, sym jb.0 ∙ et, (jb.1, jb.2)), subst (λ z. Accepts w.most (make.bind a b) z) jb.0 acc)
 
 pub bind_sound : AreTold → (w : World) (x : Binder) (p q : Span) (y z : ExpForm) → Sound w y → Sound w z → Sound w (e.Bind' x tt (its p y alone) tt (its q z alone))
-bind_sound told w x p q y z ky kz s kd st m o h d g =
+bind_sound told w x p q y z ky kz s st m o h d g =
     let v : ExpForm = e.Bind' x tt (its p y alone) tt (its q z alone) in
     let a : IsSettled w v s st m o = settled_by w v s st m o h in
     let c : (i : Out) × (typed w y s st finds ≡ Some i) × (option_and_then (bind_with s m x (typed w z) i) (value_of i.of) ≡ Some o) = opened _ _ o a.walked in
@@ -185,8 +185,8 @@ bind_sound told w x p q y z ky kz s kd st m o h d g =
     let r : (u : NormalType) × (value_of l.0.of ≡ Some u) × (bound_of c.0 l.0 u ≡ Some o) = opened _ _ o l.2 in
     let b : Out = record { of = l.0.of; exp = make.bind c.0.exp l.0.exp; sites = l.0.sites } in
     sound_at w v s st m d b o a r.2 g (λ acc fit g'.
-    let iz : IsSound w z (within_binder x t.0 s) c.0.sites m d l.0 = kz (within_binder x t.0 s) kd.1 c.0.sites m l.0 l.1 d g' in
-    let iy : IsSound w y s st finds d c.0 = ky s kd.0 st finds c.0 c.1 d iz.before in
+    let iz : IsSound w z (within_binder x t.0 s) c.0.sites m d l.0 = kz (within_binder x t.0 s) c.0.sites m l.0 l.1 d g' in
+    let iy : IsSound w y s st finds d c.0 = ky s st finds c.0 c.1 d iz.before in
     record {
       before = iy.before;
       numbered = numbered_both (numbered_end iy.numbered) (numbered_end iz.numbered);
@@ -195,7 +195,7 @@ bind_sound told w x p q y z ky kz s kd st m o h d g =
     })
 
 pub seq_sound : AreTold → (w : World) (p q : Span) (y z : ExpForm) → Sound w y → Sound w z → Sound w (e.Seq' tt (its p y alone) tt (its q z alone))
-seq_sound told w p q y z ky kz s kd st m o h d g =
+seq_sound told w p q y z ky kz s st m o h d g =
     let x : Binder = binder.Ignored in
     let v : ExpForm = e.Seq' tt (its p y alone) tt (its q z alone) in
     let a : IsSettled w v s st m o = settled_by w v s st m o h in
@@ -205,8 +205,8 @@ seq_sound told w p q y z ky kz s kd st m o h d g =
     let r : (u : NormalType) × (value_of l.0.of ≡ Some u) × (bound_of c.0 l.0 u ≡ Some o) = opened _ _ o l.2 in
     let b : Out = record { of = l.0.of; exp = make.bind c.0.exp l.0.exp; sites = l.0.sites } in
     sound_at w v s st m d b o a r.2 g (λ acc fit g'.
-    let iz : IsSound w z (within_binder x t.0 s) c.0.sites m d l.0 = kz (within_binder x t.0 s) kd.1 c.0.sites m l.0 l.1 d g' in
-    let iy : IsSound w y s st finds d c.0 = ky s kd.0 st finds c.0 c.1 d iz.before in
+    let iz : IsSound w z (within_binder x t.0 s) c.0.sites m d l.0 = kz (within_binder x t.0 s) c.0.sites m l.0 l.1 d g' in
+    let iy : IsSound w y s st finds d c.0 = ky s st finds c.0 c.1 d iz.before in
     record {
       before = iy.before;
       numbered = numbered_both (numbered_end iy.numbered) (numbered_end iz.numbered);
@@ -262,7 +262,7 @@ pub compared_asks : (w : World) (test : NormalType → Bool) → Asks w (compare
 compared_asks w test s x y st m d i j t ix l iy h = (sym (some_of h), (i.of, (ix.judged.0, ix.judged.1), l, (iy.judged.1, iy.judged.2)))
 
 pub operator_sound : AreTold → (w : World) (o : WrittenBinary) → Asks w (operation (operator_of o)) → IsCompared o → (p q : Span) (x y : ExpForm) → Sound w x → Sound w y → Sound w (e.Binary' o tt (its p x alone) tt (its q y alone))
-operator_sound told w o asks ch p q x y kx ky s kd st m out h d g =
+operator_sound told w o asks ch p q x y kx ky s st m out h d g =
     let f : ExpForm = e.Binary' o tt (its p x alone) tt (its q y alone) in
     let P : Operation = operation (operator_of o) in
     let a : IsSettled w f s st m out = settled_by w f s st m out h in
@@ -272,8 +272,8 @@ operator_sound told w o asks ch p q x y kx ky s kd st m out h d g =
     let r : (z : NormalType) × (operation_type s.env.known P c.0.of l.0.of ≡ Some z) × (sided_of (operator_of o) c.0 l.0 z ≡ Some out) = opened _ _ out l.2 in
     let b : Out = record { of = r.0; exp = make.binary (operator_of o) c.0.exp l.0.exp; sites = l.0.sites } in
     sound_at w f s st m d b out a r.2 g (λ acc fit g'.
-    let iy : IsSound w y s c.0.sites (right_mode P c.0.of) d l.0 = ky s kd.1 c.0.sites (right_mode P c.0.of) l.0 l.1 d g' in
-    let ix : IsSound w x s st (left_mode P m) d c.0 = kx s kd.0 st (left_mode P m) c.0 c.1 d iy.before in
+    let iy : IsSound w y s c.0.sites (right_mode P c.0.of) d l.0 = ky s c.0.sites (right_mode P c.0.of) l.0 l.1 d g' in
+    let ix : IsSound w x s st (left_mode P m) d c.0 = kx s st (left_mode P m) c.0 c.1 d iy.before in
     let F : Finds (stated d w).declared w.most s.env b.exp r.0 = asks s x y st m d c.0 l.0 r.0 ix t.0 iy r.1 in
     record { before = ix.before; numbered = numbered_both (numbered_end ix.numbered) (numbered_end iy.numbered); resolves = resolves.operator (is_operator o) ix.resolves iy.resolves; judged = judged_by told (stated d w) s m b.exp r.0 F (ch (stated d w).declared w.most s.env c.0.exp l.0.exp r.0 F) acc fit })
 
@@ -292,7 +292,7 @@ abbrev got_of : Sites → ℕ × ColumnKind → Option Out
 got_of st c = gives (transaction_of (option_of (kind_type c.1))) (exp.GetCookie c.0) st
 
 pub get_cookie_sound : AreTold → (w : World) (x : DeclName) → Sound w (e.GetCookie x)
-get_cookie_sound told w x s kd st m o h d g =
+get_cookie_sound told w x s st m o h d g =
     let y : ExpForm = e.GetCookie x in
     let a : IsSettled w y s st m o = settled_by w y s st m o h in
     let c : (k : ℕ × ColumnKind) × (cookie_at w x ≡ Some k) × (got_of st k ≡ Some o) = opened _ _ o a.walked in

@@ -1,5 +1,5 @@
 -- Constructors, lists, `::`, `++`, `--` and `setCookie`: what is typed resolves and has its type by the rules.
-use Rattle.std.proofs.Common.{◌≡◌, ◌≢◌, ◌∙◌, refl, sym, ap, subst, Bool, true, false, true≢false, Option, Some, None, List, ℕ}
+use Rattle.std.proofs.Common.{◌≡◌, ◌∙◌, refl, sym, ap, subst, Bool, true, false, true≢false, Option, Some, None, List, ℕ}
 use Rattle.std.specs.Prelude.{◌&&◌, codes, option_and_then, slice_get, bytes_eq}
 use mathlib.Core.Former.{Count}
 use Rattle.ur_base.specs.Shape.{Shape, count}
@@ -37,11 +37,11 @@ use Rattle.ur_typed.specs.Resolves as resolves
 use Rattle.ur_typed.specs.Rules.{Sites, Out, gives, is_option, is_list, plain_tag, tagged_out, absent_out, Capital, says_true, says_false, says_none, says_other, capital_of, by_capital, join_types, cookie_at, is_literally, is_constructor_named, are_literal_rest}
 use Rattle.ur_typed.specs.Walking.{typed, cookie_walk, cookie_field_walk}
 use Rattle.ur_typed.specs.Causes.{is_record}
-use Rattle.ur_typing_laws.specs.Judged.{AreTold, FieldsAreKinded, Fills, stated, IsSound, Sound}
+use Rattle.ur_typing_laws.specs.Judged.{AreTold, Fills, stated, IsSound, Sound}
 use Rattle.ur_typing_laws.proofs.Numbers.{numbered_none, numbered_end, numbered_both}
 use Rattle.ur_typing_laws.proofs.Sound.{IsSettled, settled_by, judged_by, sound_at}
 use Rattle.ur_typing_laws.proofs.Forms.{Asks, operator_sound, cookie_is}
-use Rattle.ur_typing_laws.proofs.Names.{row_is, label_written}
+use Rattle.ur_typing_laws.proofs.Names.{row_is}
 use Rattle.ur_type_rules.specs.Rules.{row_of, label_at}
 use Rattle.ur_type_rules.proofs.Options.{some_of, opened, opened_if, both_true}
 use Rattle.ur_typed.proofs.Shapes.{true_of, false_of, none_of, other_of, word_is, word_is_not, record_is}
@@ -60,8 +60,8 @@ abbrev empty_there : Sites → NormalType → Option Out
 empty_there st t = gives t (exp.Empty t) st
 
 pub nil_sound : AreTold → (w : World) → Sound w e.Nil
-nil_sound told w s kd st finds o h d g = let a : IsSettled w e.Nil s st finds o = settled_by w e.Nil s st finds o h in let n : ◌≡◌ {A = Option Out} None (Some o) = a.walked in cc
-nil_sound told w s kd st (wants t) o h d g =
+nil_sound told w s st finds o h d g = let a : IsSettled w e.Nil s st finds o = settled_by w e.Nil s st finds o h in let n : ◌≡◌ {A = Option Out} None (Some o) = a.walked in cc
+nil_sound told w s st (wants t) o h d g =
     let a : IsSettled w e.Nil s st (wants t) o = settled_by w e.Nil s st (wants t) o h in
     let q : (is_list t ≡ true) × (empty_there st t ≡ Some o) = opened_if (is_list t) (empty_there st t) o a.walked in
     let b : Out = record { of = t; exp = exp.Empty t; sites = st } in
@@ -115,10 +115,10 @@ by_word told w x s st m o d says_other ek a h g =
     tagged_sound told w (e.Constructor x) s st m c.0 o d (resolves.IsConstructor.bare (word_is_not x (codes "True") i.0) (word_is_not x (codes "False") i.1) (word_is_not x (codes "None") i.2) c.1) a c.2 g
 
 pub constructor_sound : AreTold → (w : World) (x : List ℕ) → Sound w (e.Constructor x)
-constructor_sound told w x s kd st m o h d g = let a : IsSettled w (e.Constructor x) s st m o = settled_by w (e.Constructor x) s st m o h in by_word told w x s st m o d (capital_of x) refl a a.walked g
+constructor_sound told w x s st m o h d g = let a : IsSettled w (e.Constructor x) s st m o = settled_by w (e.Constructor x) s st m o h in by_word told w x s st m o d (capital_of x) refl a a.walked g
 
 pub member_constructor_sound : AreTold → (w : World) (i x : List ℕ) → Sound w (e.MemberConstructor i x)
-member_constructor_sound told w i x s kd st m o h d g =
+member_constructor_sound told w i x s st m o h d g =
     let a : IsSettled w (e.MemberConstructor i x) s st m o = settled_by w (e.MemberConstructor i x) s st m o h in
     let c : (n : ℕ) × (declared w.globals (of_module i x) w.globals.constructors ≡ Some n) × (tagged_out w st n ≡ Some o) = opened _ _ o a.walked in
     tagged_sound told w (e.MemberConstructor i x) s st m c.0 o d (resolves.IsConstructor.member c.1) a c.2 g
@@ -150,17 +150,17 @@ abbrev consing : World → ExpForm → Scope → Out → Option Out
 consing w y s i = option_and_then (λ j. consed_of i j (list_of i.of)) (typed w y s i.sites (wants (list_of i.of)))
 
 pub cons_sound : AreTold → (w : World) (p q : Span) (x y : ExpForm) → Sound w x → Sound w y → Sound w (e.Binary' op.Cons tt (its p x alone) tt (its q y alone))
-cons_sound told w p q x y kx ky s kd st finds o h d g =
+cons_sound told w p q x y kx ky s st finds o h d g =
     let f : ExpForm = e.Binary' op.Cons tt (its p x alone) tt (its q y alone) in
     let a : IsSettled w f s st finds o = settled_by w f s st finds o h in
     let c : (i : Out) × (typed w x s st finds ≡ Some i) × (consing w y s i ≡ Some o) = opened _ _ o a.walked in
     let l : (j : Out) × (typed w y s c.0.sites (wants (list_of c.0.of)) ≡ Some j) × (consed_of c.0 j (list_of c.0.of) ≡ Some o) = opened _ _ o c.2 in
     let b : Out = record { of = list_of c.0.of; exp = make.binary binary.Cons c.0.exp l.0.exp; sites = l.0.sites } in
     sound_at w f s st finds d b o a l.2 g (λ acc fit g'.
-    let iy : IsSound w y s c.0.sites (wants (list_of c.0.of)) d l.0 = ky s kd.1 c.0.sites (wants (list_of c.0.of)) l.0 l.1 d g' in
-    let ix : IsSound w x s st finds d c.0 = kx s kd.0 st finds c.0 c.1 d iy.before in
+    let iy : IsSound w y s c.0.sites (wants (list_of c.0.of)) d l.0 = ky s c.0.sites (wants (list_of c.0.of)) l.0 l.1 d g' in
+    let ix : IsSound w x s st finds d c.0 = kx s st finds c.0 c.1 d iy.before in
     record { before = ix.before; numbered = numbered_both (numbered_end ix.numbered) (numbered_end iy.numbered); resolves = resolves.operator resolves.cons ix.resolves iy.resolves; judged = ((c.0.of, refl, (ix.judged.0, ix.judged.1), (iy.judged.1, iy.judged.2)), acc) })
-cons_sound told w p q x y kx ky s kd st (wants t) o h d g =
+cons_sound told w p q x y kx ky s st (wants t) o h d g =
     let f : ExpForm = e.Binary' op.Cons tt (its p x alone) tt (its q y alone) in
     let a : IsSettled w f s st (wants t) o = settled_by w f s st (wants t) o h in
     let c : (i : Out) × (typed w x s st (of_list (wants t)) ≡ Some i) × (consing w y s i ≡ Some o) = opened _ _ o a.walked in
@@ -169,8 +169,8 @@ cons_sound told w p q x y kx ky s kd st (wants t) o h d g =
     sound_at w f s st (wants t) d b o a l.2 g (λ acc fit g'.
     let q : list_of c.0.of ≡ t = told (list_of c.0.of) t fit in
     let r : typed w x s st (wants c.0.of) ≡ Some c.0 = subst (λ v. typed w x s st (of_list (wants v)) ≡ Some c.0) (sym q) c.1 in
-    let iy : IsSound w y s c.0.sites (wants (list_of c.0.of)) d l.0 = ky s kd.1 c.0.sites (wants (list_of c.0.of)) l.0 l.1 d g' in
-    let ix : IsSound w x s st (wants c.0.of) d c.0 = kx s kd.0 st (wants c.0.of) c.0 r d iy.before in
+    let iy : IsSound w y s c.0.sites (wants (list_of c.0.of)) d l.0 = ky s c.0.sites (wants (list_of c.0.of)) l.0 l.1 d g' in
+    let ix : IsSound w x s st (wants c.0.of) d c.0 = kx s st (wants c.0.of) c.0 r d iy.before in
     record {
       before = ix.before;
       numbered = numbered_both (numbered_end ix.numbered) (numbered_end iy.numbered);
@@ -184,7 +184,7 @@ abbrev cut_of : Scope → FieldName → Out → List Part → NormalType → Opt
 cut_of s f z r t = gives (record_of (without (label_at s f) r)) (make.cut z.exp (label_at s f)) z.sites
 
 pub cut_sound : AreTold → (w : World) (p : Span) (x : ExpForm) (f : Removed) → Sound w x → Sound w (e.Remove' tt (its p x alone) f)
-cut_sound told w p x f k s kd st m o h d g =
+cut_sound told w p x f k s st m o h d g =
     let y : ExpForm = e.Remove' tt (its p x alone) f in
     let n : Label = label_at s f.name in
     let a : IsSettled w y s st m o = settled_by w y s st m o h in
@@ -193,9 +193,9 @@ cut_sound told w p x f k s kd st m o h d g =
     let u : (v : NormalType) × (field_type n t.0 ≡ Some v) × (cut_of s f.name c.0 t.0 v ≡ Some o) = opened _ _ o t.2 in
     let b : Out = record { of = record_of (without n t.0); exp = make.cut c.0.exp n; sites = c.0.sites } in
     sound_at w y s st m d b o a u.2 g (λ acc fit g'.
-    let i : IsSound w x s st finds d c.0 = k s kd.1 st finds c.0 c.1 d g' in
+    let i : IsSound w x s st finds d c.0 = k s st finds c.0 c.1 d g' in
     let r : is_found (stated d w) s c.0.exp (record_of t.0) = subst (is_found (stated d w) s c.0.exp) (row_is c.0.of t.0 t.1) (i.judged.0, i.judged.1) in
-    record { before = i.before; numbered = numbered_end i.numbered; resolves = resolves.cut i.resolves (label_written s f.name kd.0); judged = judged_by told (stated d w) s m b.exp b.of (t.0, u.0, r, u.1, refl) (t.0, u.0, r, u.1, refl) acc fit })
+    record { before = i.before; numbered = numbered_end i.numbered; resolves = resolves.cut i.resolves refl; judged = judged_by told (stated d w) s m b.exp b.of (t.0, u.0, r, u.1, refl) (t.0, u.0, r, u.1, refl) acc fit })
 
 -- ---- `setCookie`
 
@@ -234,18 +234,18 @@ record CookieIsSound (w : World) (n : Count) (fields : Row_of-Field n) (s : Scop
   literal : IsCookieRecord n fields value
   sound : IsSound w value s st m d o
 
-cookie_value : (w : World) (n : Count) (fields : Row_of-Field n) → FirstFieldIsSound w fields → (s : Scope) → FieldsAreKinded s.names.cons fields → (st : Sites) (m : Mode) (o : Out) → cookie_field_walk w fields s st m ≡ Some o → (d : Statements) → Fills w d o.sites → CookieIsSound w n fields s st m d o
-cookie_value w _ end_of-Field k s kd st m o h d g = cc
-cookie_value w _ (more_of-Field {n = n} f p x rest) k s kd st m o h d g =
+cookie_value : (w : World) (n : Count) (fields : Row_of-Field n) → FirstFieldIsSound w fields → (s : Scope) (st : Sites) (m : Mode) (o : Out) → cookie_field_walk w fields s st m ≡ Some o → (d : Statements) → Fills w d o.sites → CookieIsSound w n fields s st m d o
+cookie_value w _ end_of-Field k s st m o h d g = cc
+cookie_value w _ (more_of-Field {n = n} f p x rest) k s st m o h d g =
     let r : ((is_literally f (codes "Value") && are_literal_rest rest) ≡ true) × (typed w x s st m ≡ Some o) = opened_if (is_literally f (codes "Value") && are_literal_rest rest) (typed w x s st m) o h in
     let t : (is_literally f (codes "Value") ≡ true) × (are_literal_rest rest ≡ true) = both_true (is_literally f (codes "Value")) (are_literal_rest rest) r.0 in
-    record { value = x; literal = cookie_fields n f p x rest t.0 t.1; sound = k s kd.1.0 st m o r.1 d g }
+    record { value = x; literal = cookie_fields n f p x rest t.0 t.1; sound = k s st m o r.1 d g }
 
 abbrev cookie_set : ℕ → Out → Option Out
 cookie_set c z = gives (transaction_of unit) (make.set_cookie c z.exp) z.sites
 
 pub set_cookie_sound : AreTold → (w : World) (x : DeclName) (p : Span) (n : Shape) (fields : Row_of-Field (count n)) → FirstFieldIsSound w fields → Sound w (e.SetCookie' x tt (its p (e.Record' n fields) alone))
-set_cookie_sound told w x p n fields k s kd st m o h d g =
+set_cookie_sound told w x p n fields k s st m o h d g =
     let v : ExpForm = e.SetCookie' x tt (its p (e.Record' n fields) alone) in
     let a : IsSettled w v s st m o = settled_by w v s st m o h in
     let c : (i : ℕ × ColumnKind) × (cookie_at w x ≡ Some i) × (option_and_then (cookie_set i.0) (cookie_field_walk w fields s st (wants (kind_type i.1))) ≡ Some o) = opened _ _ o a.walked in
@@ -253,7 +253,7 @@ set_cookie_sound told w x p n fields k s kd st m o h d g =
     let u : (declared w.globals (name_of x) w.globals.cookies ≡ Some c.0.0) × (slice_get w.declared.cookies c.0.0 ≡ Some c.0.1) = cookie_is w x c.0 c.1 in
     let b : Out = record { of = transaction_of unit; exp = make.set_cookie c.0.0 l.0.exp; sites = l.0.sites } in
     sound_at w v s st m d b o a l.2 g (λ acc fit g'.
-    let i : CookieIsSound w _ fields s st (wants (kind_type c.0.1)) d l.0 = cookie_value w _ fields k s kd.0 st (wants (kind_type c.0.1)) l.0 l.1 d g' in
+    let i : CookieIsSound w _ fields s st (wants (kind_type c.0.1)) d l.0 = cookie_value w _ fields k s st (wants (kind_type c.0.1)) l.0 l.1 d g' in
     let j : Finds (stated d w).declared w.most s.env b.exp b.of = (c.0.1, u.1, (i.sound.judged.1, i.sound.judged.2), refl) in
     record { before = i.sound.before; numbered = numbered_end i.sound.numbered; resolves = resolves.set_cookie u.0 i.literal i.sound.resolves; judged = judged_by told (stated d w) s m b.exp b.of j j acc fit })
 
@@ -267,7 +267,7 @@ no_record w s st m p (e.Record' n fields) h = cc
 no_record w s st m p _ h = refl
 
 other_sound : (w : World) (x : DeclName) (p : Span) (y : ExpForm) → is_record y ≡ false → Sound w (e.SetCookie' x tt (its p y alone))
-other_sound w x p y i s kd st m o h d g =
+other_sound w x p y i s st m o h d g =
     let v : ExpForm = e.SetCookie' x tt (its p y alone) in
     let a : IsSettled w v s st m o = settled_by w v s st m o h in
     let c : (k : ℕ × ColumnKind) × (cookie_at w x ≡ Some k) × (option_and_then (cookie_set k.0) (cookie_walk w (its p y alone) s st (wants (kind_type k.1))) ≡ Some o) = opened _ _ o a.walked in

@@ -1,12 +1,11 @@
 -- Literals of XML: what is typed resolves and has its type by the rules.
 use Rattle.std.proofs.Common.{◌≡◌, ◌∙◌, refl, sym, ap, ap₂, subst, Bool, true, false, true≢false, Option, Some, None, List, [], ◌∷◌, ◌++◌, ℕ, zero, suc}
-use Rattle.std.specs.Prelude.{◌≤◌, ◌+◌, not, option_and_then, slice_get}
+use Rattle.std.specs.Prelude.{◌≤◌, not, option_and_then, slice_get}
 use Rattle.std.specs.List.{list_all}
 use mathlib.Core.Former.{Count}
 use Rattle.ur_base.specs.Shape.{Shape, count}
 use Rattle.ur_base.specs.declared.refusal.Span.{Span}
 use Rattle.ur_syntax.specs.Names.{own, member as of_module}
-use Rattle.ur_syntax.specs.declared.con.ConEnv.{ConEnv}
 use Rattle.ur_syntax.specs.declared.exp.ExpForm.{ExpForm, Row_of-Exp, end_of-Exp as alone, more_of-Exp as its}
 use Rattle.ur_syntax.specs.declared.exp.ExpForm.TheVariants as e
 use Rattle.ur_syntax.specs.declared.xml.AttrValue.{AttrValue}
@@ -44,7 +43,7 @@ use Rattle.ur_typed.specs.Markups.{Splice, Attribute, Literal, Marked, no_marks,
 use Rattle.ur_typed.specs.Walking.{typed, splices_walk, attributes_walk, call_walk, with_calls}
 use Rattle.ur_typed.specs.Parts.{literal_of, is_applied}
 use Rattle.ur_typed.specs.Faults.{walks}
-use Rattle.ur_typing_laws.specs.Judged.{AreTold, IsKinded, AreKinded, Fills, stated, Numbered, IsSound, Sound}
+use Rattle.ur_typing_laws.specs.Judged.{AreTold, Fills, stated, Numbered, IsSound, Sound}
 use Rattle.ur_typing_laws.proofs.Numbers.{numbered_none, numbered_both, numbered_end}
 use Rattle.ur_typed.proofs.Literals.{a_splice, an_attribute, call_at_head}
 use Rattle.ur_typing_laws.proofs.Applications.{AllSound, ArgsResolve, one_given}
@@ -66,39 +65,35 @@ abbrev pub TargetsSound : World → {n : _} → Row_of-Exp n → Type 0
 TargetsSound w alone = Unit {0}
 TargetsSound w (its p x rest) = SpineArgsSound w x × TargetsSound w rest
 
-record SpliceIs (w : World) (env : ConEnv) (n : Count) (xs : Row_of-Exp n) (i : ℕ) (x : Splice) : Type 0 where
+record SpliceIs (w : World) (n : Count) (xs : Row_of-Exp n) (i : ℕ) (x : Splice) : Type 0 where
   written : ExpForm
   there : IsAntiquote n xs i written
   is : a_splice w written ≡ x
   sound : Sound w written
-  kinded : IsKinded env written
 
-splice_is : (w : World) (env : ConEnv) (n : Count) (xs : Row_of-Exp n) → RowIsSound w xs → AreKinded env xs → (i : ℕ) (x : Splice) → slice_get (splices_walk w xs) i ≡ Some x → SpliceIs w env n xs i x
-splice_is w env _ alone k kd i x h = cc
-splice_is w env _ (its p y rest) k kd zero x h = record { written = y; there = first; is = some_of h; sound = k.0; kinded = kd.0 }
-splice_is w env _ (its {n = n} p y rest) k kd (suc i) x h =
-    let r : SpliceIs w env n rest i x = splice_is w env n rest k.1 kd.1 i x h in record { written = r.written; there = next_of n p y r.written rest i r.there; is = r.is; sound = r.sound; kinded = r.kinded }
+splice_is : (w : World) (n : Count) (xs : Row_of-Exp n) → RowIsSound w xs → (i : ℕ) (x : Splice) → slice_get (splices_walk w xs) i ≡ Some x → SpliceIs w n xs i x
+splice_is w _ alone k i x h = cc
+splice_is w _ (its p y rest) k zero x h = record { written = y; there = first; is = some_of h; sound = k.0 }
+splice_is w _ (its {n = n} p y rest) k (suc i) x h =
+    let r : SpliceIs w n rest i x = splice_is w n rest k.1 i x h in record { written = r.written; there = next_of n p y r.written rest i r.there; is = r.is; sound = r.sound }
 
 record AttributeIs (w : World) (s : Scope) (n : Count) (xs : Row_of-Exp n) (i : ℕ) (x : Attribute) : Type 0 where
   written : ExpForm
   there : IsAntiquote n xs i written
   is : an_attribute w s written ≡ x
   sound : Sound w written
-  kinded : IsKinded s.names.cons written
   args : SpineArgsSound w written
 
-attribute_is : (w : World) (s : Scope) (n : Count) (xs : Row_of-Exp n) → RowIsSound w xs → TargetsSound w xs → AreKinded s.names.cons xs → (i : ℕ) (x : Attribute) → slice_get (attributes_walk w xs s) i ≡ Some x → AttributeIs w s n xs i x
-attribute_is w s _ alone k t kd i x h = cc
-attribute_is w s _ (its p y rest) k t kd zero x h = record { written = y; there = first; is = some_of h; sound = k.0; kinded = kd.0; args = t.0 }
-attribute_is w s _ (its {n = n} p y rest) k t kd (suc i) x h =
-    let r : AttributeIs w s n rest i x = attribute_is w s n rest k.1 t.1 kd.1 i x h in
-    record { written = r.written; there = next_of n p y r.written rest i r.there; is = r.is; sound = r.sound; kinded = r.kinded; args = r.args }
+attribute_is : (w : World) (s : Scope) (n : Count) (xs : Row_of-Exp n) → RowIsSound w xs → TargetsSound w xs → (i : ℕ) (x : Attribute) → slice_get (attributes_walk w xs s) i ≡ Some x → AttributeIs w s n xs i x
+attribute_is w s _ alone k t i x h = cc
+attribute_is w s _ (its p y rest) k t zero x h = record { written = y; there = first; is = some_of h; sound = k.0; args = t.0 }
+attribute_is w s _ (its {n = n} p y rest) k t (suc i) x h =
+    let r : AttributeIs w s n rest i x = attribute_is w s n rest k.1 t.1 i x h in
+    record { written = r.written; there = next_of n p y r.written rest i r.there; is = r.is; sound = r.sound; args = r.args }
 
 pub record Beside (w : World) (s : Scope) (a : Count) (splices : Row_of-Exp a) (c : Count) (attributes : Row_of-Exp c) : Type 0 where
   pub splices_sound : RowIsSound w splices
-  pub splices_kinded : AreKinded s.names.cons splices
   pub attributes_sound : RowIsSound w attributes
-  pub attributes_kinded : AreKinded s.names.cons attributes
   pub targets_sound : TargetsSound w attributes
   -- a type has a node
   pub room : 1 ≤ w.most
@@ -140,11 +135,11 @@ call_by w s x ys c a k h =
     let f : (f : ℕ) × (function_named w s x ≡ Some f) × (with_calls (walks w ys) f ≡ c) = mapped (with_calls (walks w ys)) (function_named w s x) c (sym (call_at_head w x s (walks w ys) a) ∙ h) in
     subst (CallIs w s x ys) f.2 (record { args = ys; are = refl; sound = k; resolves = λ d n rs r. call_is r (call_head (named_is w s x f.0 f.1)) })
 
-call_sound : (w : World) (s : Scope) (x : ExpForm) → SpineArgsSound w x → IsKinded s.names.cons x → (ys : List ExpForm) → AllSound w s ys → (c : ℕ × List Walk) → call_walk w x s (walks w ys) ≡ Some c → CallIs w s x ys c
-call_sound w s (e.App' _ (its p f alone) _ (its q a alone)) t kd ys k c h =
-    let r : CallIs w s f (a ∷ ys) c = call_sound w s f t.0 kd.0 (a ∷ ys) (t.1, (kd.1, k)) c h in
+call_sound : (w : World) (s : Scope) (x : ExpForm) → SpineArgsSound w x → (ys : List ExpForm) → AllSound w s ys → (c : ℕ × List Walk) → call_walk w x s (walks w ys) ≡ Some c → CallIs w s x ys c
+call_sound w s (e.App' _ (its p f alone) _ (its q a alone)) t ys k c h =
+    let r : CallIs w s f (a ∷ ys) c = call_sound w s f t.0 (a ∷ ys) (t.1, k) c h in
     record { args = r.args; are = r.are; sound = r.sound; resolves = λ d n rs i. call_further_of d w s p q f a ys c.0 n rs (r.resolves d n rs i) }
-call_sound w s _ t kd ys k c h = call_by w s _ ys c refl k h
+call_sound w s _ t ys k c h = call_by w s _ ys c refl k h
 
 -- what is known of the call of an attribute
 pub record TargetIs (w : World) (s : Scope) (c : Count) (attributes : Row_of-Exp c) (i : ℕ) (f : ℕ × List Walk) : Type 0 where
@@ -157,8 +152,8 @@ target_is w s splices c attributes b i f h = by_attribute (slice_get (attributes
   by_attribute : (o : Option Attribute) → slice_get (attributes_walk w attributes s) i ≡ o → option_and_then (λ a. a.calls) o ≡ Some f → TargetIs w s c attributes i f
   by_attribute None eo g = cc
   by_attribute (Some x) eo g =
-      let r : AttributeIs w s c attributes i x = attribute_is w s c attributes b.attributes_sound b.targets_sound b.attributes_kinded i x eo in
-      record { written = r.written; there = r.there; call = call_sound w s r.written r.args r.kinded [] tt f (subst (λ v. v.calls ≡ Some f) (sym r.is) g) }
+      let r : AttributeIs w s c attributes i x = attribute_is w s c attributes b.attributes_sound b.targets_sound i x eo in
+      record { written = r.written; there = r.there; call = call_sound w s r.written r.args [] tt f (subst (λ v. v.calls ≡ Some f) (sym r.is) g) }
 
 pub record PageIs (w : World) (f : ℕ) (ps : List NormalType) : Type 0 where
   pub head : Head
@@ -209,11 +204,11 @@ value_is w s splices c attributes b may st (Some (attr_value.Text x)) m h g d f 
     subst (ValueIs w s c attributes may st (Some (attr_value.Text x)) d) i (string_value w s c attributes may st x d b.room (is_may may (attr_value.Text x) m) (subst (λ (v : Held-Exp-Tagged-1 × Sites). Fills w d v.1) (sym i) f))
 value_is w s splices c attributes b may st (Some (attr_value.Exp j)) m h g d f =
     let x : (x : Attribute) × (slice_get (attributes_walk w attributes s) j ≡ Some x) × (option_and_then held_out (x.walk s st (wants ty.Str)) ≡ Some h) = opened _ _ h g in
-    let r : AttributeIs w s c attributes j x.0 = attribute_is w s c attributes b.attributes_sound b.targets_sound b.attributes_kinded j x.0 x.1 in
+    let r : AttributeIs w s c attributes j x.0 = attribute_is w s c attributes b.attributes_sound b.targets_sound j x.0 x.1 in
     let o : (o : Out) × (typed w r.written s st (wants ty.Str) ≡ Some o) × (held_out o ≡ Some h) = opened _ _ h (subst (λ v. option_and_then held_out (v.walk s st (wants ty.Str)) ≡ Some h) (sym r.is) x.2) in
     let z : Held-Exp-Tagged-1 × Sites = (held_exp o.0.exp, o.0.sites) in
     let i : z ≡ h = some_of o.2 in
-    let k : IsSound w r.written s st (wants ty.Str) d o.0 = r.sound s r.kinded st (wants ty.Str) o.0 o.1 d (subst (λ (v : Held-Exp-Tagged-1 × Sites). Fills w d v.1) (sym i) f) in
+    let k : IsSound w r.written s st (wants ty.Str) d o.0 = r.sound s st (wants ty.Str) o.0 o.1 d (subst (λ (v : Held-Exp-Tagged-1 × Sites). Fills w d v.1) (sym i) f) in
     subst (ValueIs w s c attributes may st (Some (attr_value.Exp j)) d) i (record { before = k.before; resolve = value_of r.there k.resolves; has = (is_may may (attr_value.Exp j) m, (k.judged.1, k.judged.2)); numbered = numbered_end k.numbered })
 
 -- ---- parts
@@ -292,12 +287,12 @@ pub shown_sound : (w : World) (s : Scope) (a : Count) (splices : Row_of-Exp a) (
 shown_sound w s a splices c attributes b p n st m h d g =
     let l : Literal = literal_of w s splices attributes in
     let x : (x : Splice) × (slice_get l.splices n ≡ Some x) × (shown_out l p st x ≡ Some m) = opened _ _ m h in
-    let r : SpliceIs w s.names.cons a splices n x.0 = splice_is w s.names.cons a splices b.splices_sound b.splices_kinded n x.0 x.1 in
+    let r : SpliceIs w a splices n x.0 = splice_is w a splices b.splices_sound n x.0 x.1 in
     let q : (holds_text p ≡ true) × (option_and_then shown_of (typed w r.written s st finds) ≡ Some m) = opened_if (holds_text p) _ m (subst (λ v. shown_out l p st v ≡ Some m) (sym r.is) x.2) in
     let o : (o : Out) × (typed w r.written s st finds ≡ Some o) × (shown_of o ≡ Some m) = opened _ _ m q.1 in
     let t : (is_basic o.0.of ≡ true) × (one_mark [] [] (markup.Shown o.0.exp) o.0.sites ≡ Some m) = opened_if (is_basic o.0.of) (one_mark [] [] (markup.Shown o.0.exp) o.0.sites) m o.2 in
     let i : marked [] [] (markup.Shown o.0.exp) o.0.sites ≡ m = some_of t.1 in
-    let k : IsSound w r.written s st finds d o.0 = r.sound s r.kinded st finds o.0 o.1 d (subst (λ v. Fills w d v.sites) (sym i) g) in
+    let k : IsSound w r.written s st finds d o.0 = r.sound s st finds o.0 o.1 d (subst (λ v. Fills w d v.sites) (sym i) g) in
     subst (PartIsSound w s a splices c attributes p st d (form.Show n)) i
     (stays k.before (part_shown r.there k.resolves) (λ own_row wt. (q.0, (o.0.of, k.judged.0, k.judged.1, t.0), refl)) k.numbered (λ z. refl) (λ z. refl) (λ n rest. refl))
 
@@ -333,36 +328,36 @@ spliced_fields o = option_and_then (spliced_row o) (fields_found o.of)
 abbrev spliced_whole : Out → Option Marked
 spliced_whole o = one_mark [] [] (markup.Splice o.exp) o.sites
 
-field_splice_sound : (w : World) (s : Scope) (a : Count) (splices : Row_of-Exp a) (c : Count) (attributes : Row_of-Exp c) (p : Place) (n : ℕ) (st : Sites) (y : ExpForm) (b : Bool) → lacks_type y ≡ b → holds_fields p ≡ true → IsAntiquote a splices n y → Sound w y → IsKinded s.names.cons y → (m : Marked) →
+field_splice_sound : (w : World) (s : Scope) (a : Count) (splices : Row_of-Exp a) (c : Count) (attributes : Row_of-Exp c) (p : Place) (n : ℕ) (st : Sites) (y : ExpForm) (b : Bool) → lacks_type y ≡ b → holds_fields p ≡ true → IsAntiquote a splices n y → Sound w y → (m : Marked) →
     field_splice_out (literal_of w s splices attributes) st (typed w y) b ≡ Some m → (d : Statements) → Fills w d m.sites → PartIsSound w s a splices c attributes p st d (form.Splice n) m
-field_splice_sound w s a splices c attributes p n st y false eb hp there ky kd m h d g =
+field_splice_sound w s a splices c attributes p n st y false eb hp there ky m h d g =
     let o : (o : Out) × (typed w y s st finds ≡ Some o) × (spliced_fields o ≡ Some m) = opened _ _ m h in
     let r : (r : List RowPart) × (fields_found o.0.of ≡ Some r) × (spliced_row o.0 r ≡ Some m) = opened _ _ m o.2 in
     let i : marked r.0 [] (markup.Splice o.0.exp) o.0.sites ≡ m = some_of r.2 in
-    let k : IsSound w y s st finds d o.0 = ky s kd st finds o.0 o.1 d (subst (λ v. Fills w d v.sites) (sym i) g) in
+    let k : IsSound w y s st finds d o.0 = ky s st finds o.0 o.1 d (subst (λ v. Fills w d v.sites) (sym i) g) in
     let eq : wants_type o.0.exp ≡ false = wants_is d w.most w.globals (stated d w).declared s.names y o.0.exp k.resolves ∙ eb in
     subst (PartIsSound w s a splices c attributes p st d (form.Splice n)) i
     (stays k.before (part_splice there k.resolves)
     (λ own_row wt. subst (λ v. SpliceAt p v (is_found (stated d w) s o.0.exp) (is_wanted (stated d w) s o.0.exp) r.0) (sym eq) (splice_found p (is_found (stated d w) s o.0.exp) (is_wanted (stated d w) s o.0.exp) r.0 hp (o.0.of, (k.judged.0, k.judged.1), r.1)))
     k.numbered (λ z. absurd (true≢false (sym hp ∙ z))) (λ z. refl) (λ n rest. refl))
-field_splice_sound w s a splices c attributes p n st y true eb hp there ky kd m h d g =
+field_splice_sound w s a splices c attributes p n st y true eb hp there ky m h d g =
     let o : (o : Out) × (typed w y s st (wants ty.Xbody) ≡ Some o) × (spliced_whole o ≡ Some m) = opened _ _ m h in
     let i : marked [] [] (markup.Splice o.0.exp) o.0.sites ≡ m = some_of o.2 in
-    let k : IsSound w y s st (wants ty.Xbody) d o.0 = ky s kd st (wants ty.Xbody) o.0 o.1 d (subst (λ v. Fills w d v.sites) (sym i) g) in
+    let k : IsSound w y s st (wants ty.Xbody) d o.0 = ky s st (wants ty.Xbody) o.0 o.1 d (subst (λ v. Fills w d v.sites) (sym i) g) in
     let eq : wants_type o.0.exp ≡ true = wants_is d w.most w.globals (stated d w).declared s.names y o.0.exp k.resolves ∙ eb in
     subst (PartIsSound w s a splices c attributes p st d (form.Splice n)) i
     (stays k.before (part_splice there k.resolves)
     (λ own_row wt. subst (λ v. SpliceAt p v (is_found (stated d w) s o.0.exp) (is_wanted (stated d w) s o.0.exp) []) (sym eq) (splice_wanted p (is_found (stated d w) s o.0.exp) (is_wanted (stated d w) s o.0.exp) [] hp (k.judged.1, k.judged.2) refl))
     k.numbered (λ z. refl) (λ z. refl) (λ n rest. refl))
 
-splice_at_place : (w : World) (s : Scope) (a : Count) (splices : Row_of-Exp a) (c : Count) (attributes : Row_of-Exp c) (p : Place) (n : ℕ) (st : Sites) (y : ExpForm) (b : Bool) → holds_fields p ≡ b → IsAntiquote a splices n y → Sound w y → IsKinded s.names.cons y → (m : Marked) →
+splice_at_place : (w : World) (s : Scope) (a : Count) (splices : Row_of-Exp a) (c : Count) (attributes : Row_of-Exp c) (p : Place) (n : ℕ) (st : Sites) (y : ExpForm) (b : Bool) → holds_fields p ≡ b → IsAntiquote a splices n y → Sound w y → (m : Marked) →
     splice_by (literal_of w s splices attributes) p st (a_splice w y) b ≡ Some m → (d : Statements) → Fills w d m.sites → PartIsSound w s a splices c attributes p st d (form.Splice n) m
-splice_at_place w s a splices c attributes p n st y true hp there ky kd m h d g = field_splice_sound w s a splices c attributes p n st y (lacks_type y) refl hp there ky kd m h d g
-splice_at_place w s a splices c attributes p n st y false hp there ky kd m h d g =
+splice_at_place w s a splices c attributes p n st y true hp there ky m h d g = field_splice_sound w s a splices c attributes p n st y (lacks_type y) refl hp there ky m h d g
+splice_at_place w s a splices c attributes p n st y false hp there ky m h d g =
     let t : (t : NormalType) × (place_type p ≡ Some t) × (option_and_then spliced_whole (typed w y s st (wants t)) ≡ Some m) = opened _ _ m h in
     let o : (o : Out) × (typed w y s st (wants t.0) ≡ Some o) × (spliced_whole o ≡ Some m) = opened _ _ m t.2 in
     let i : marked [] [] (markup.Splice o.0.exp) o.0.sites ≡ m = some_of o.2 in
-    let k : IsSound w y s st (wants t.0) d o.0 = ky s kd st (wants t.0) o.0 o.1 d (subst (λ v. Fills w d v.sites) (sym i) g) in
+    let k : IsSound w y s st (wants t.0) d o.0 = ky s st (wants t.0) o.0 o.1 d (subst (λ v. Fills w d v.sites) (sym i) g) in
     subst (PartIsSound w s a splices c attributes p st d (form.Splice n)) i
     (stays k.before (part_splice there k.resolves) (λ own_row wt. splice_placed p (wants_type o.0.exp) (is_found (stated d w) s o.0.exp) (is_wanted (stated d w) s o.0.exp) [] t.0 hp t.1 (k.judged.1, k.judged.2) refl) k.numbered (λ z. refl) (λ z. refl) (λ n rest. refl))
 
@@ -371,5 +366,5 @@ pub splice_sound : (w : World) (s : Scope) (a : Count) (splices : Row_of-Exp a) 
 splice_sound w s a splices c attributes b p n st m h d g =
     let l : Literal = literal_of w s splices attributes in
     let x : (x : Splice) × (slice_get l.splices n ≡ Some x) × (splice_out l p st x ≡ Some m) = opened _ _ m h in
-    let r : SpliceIs w s.names.cons a splices n x.0 = splice_is w s.names.cons a splices b.splices_sound b.splices_kinded n x.0 x.1 in
-    splice_at_place w s a splices c attributes p n st r.written (holds_fields p) refl r.there r.sound r.kinded m (subst (λ v. splice_out l p st v ≡ Some m) (sym r.is) x.2) d g
+    let r : SpliceIs w a splices n x.0 = splice_is w a splices b.splices_sound n x.0 x.1 in
+    splice_at_place w s a splices c attributes p n st r.written (holds_fields p) refl r.there r.sound m (subst (λ v. splice_out l p st v ≡ Some m) (sym r.is) x.2) d g

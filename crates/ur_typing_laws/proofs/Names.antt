@@ -4,7 +4,6 @@ use Rattle.std.specs.Prelude.{◌&&◌, option_and_then, slice_get}
 use Rattle.ur_base.specs.Shape.{Shape, count}
 use Rattle.ur_base.specs.declared.refusal.Span.{Span}
 use Rattle.ur_syntax.specs.Names.{own, member as of_module}
-use Rattle.ur_syntax.specs.HasKind
 use Rattle.ur_syntax.specs.declared.con.FieldName.{FieldName}
 use Rattle.ur_syntax.specs.declared.exp.ExpForm.{ExpForm, end_of-Exp as alone, more_of-Exp as its}
 use Rattle.ur_syntax.specs.declared.exp.ExpForm.TheVariants as e
@@ -20,7 +19,7 @@ use Rattle.ur_tree.specs.declared.exp.Exp.TheVariants as exp
 use Rattle.ur_tree.specs.Make as make
 use Rattle.ur_tree.specs.Heads.{Head, function_type}
 use Rattle.ur_tree.specs.Typing.{keeps_arrows, Finds, Accepts}
-use Rattle.ur_type_conditions.specs.Names.{Declared as DeclaredAs, function, val, declared, local_at, WritesLabel}
+use Rattle.ur_type_conditions.specs.Names.{Declared as DeclaredAs, function, val, declared, local_at}
 use Rattle.ur_typed.specs.Resolves.{Statements, IsDeclared}
 use Rattle.ur_typed.specs.Resolves as resolves
 use Rattle.ur_type_conditions.specs.Scopes.{World, Scope, Mode, finds}
@@ -78,11 +77,11 @@ by_local told args w s st m x d o None el a h g =
     declared_sound told args w s st m (e.Var x) d o c.0 (resolves.bare el c.1) a c.2 g
 
 pub var_sound : AreTold → ArgumentsAreTold → (w : World) (x : List ℕ) → Sound w (e.Var x)
-var_sound told args w x s kd st m o h d g =
+var_sound told args w x s st m o h d g =
     let a : IsSettled w (e.Var x) s st m o = settled_by w (e.Var x) s st m o h in by_local told args w s st m x d o (local_at x s.names.locals) refl a a.walked g
 
 pub member_sound : AreTold → ArgumentsAreTold → (w : World) (i x : List ℕ) → Sound w (e.Member i x)
-member_sound told args w i x s kd st m o h d g =
+member_sound told args w i x s st m o h d g =
     let a : IsSettled w (e.Member i x) s st m o = settled_by w (e.Member i x) s st m o h in
     let c : (k : DeclaredAs) × (declared w.globals (of_module i x) w.globals.values ≡ Some k) × (declared_out w s st k ≡ Some o) = opened _ _ o a.walked in
     declared_sound told args w s st m (e.Member i x) d o c.0 (resolves.member c.1) a c.2 g
@@ -97,14 +96,11 @@ pub row_is : (t : NormalType) (r : List Part) → row_of t ≡ Some r → t ≡ 
 row_is (ty.Record' s r) q h = sym (ap (λ z. ty.Record' z.0 z.1) (row_parts s r)) ∙ ap record_of (some_of h)
 row_is _ q h = cc
 
-pub label_written : (s : Scope) (f : FieldName) → HasKind.IsName (HasKind.scope_in s.names.cons) f → WritesLabel s.names.cons f (label_at s f)
-label_written s f i = (i, refl)
-
 abbrev projected_of : Scope → FieldName → Out → NormalType → Option Out
 projected_of s f z t = gives t (make.project z.exp (label_at s f)) z.sites
 
 pub project_sound : AreTold → (w : World) (p : Span) (x : ExpForm) (l : FieldName) → Sound w x → Sound w (e.Project' tt (its p x alone) l)
-project_sound told w p x l k s kd st m o h d g =
+project_sound told w p x l k s st m o h d g =
     let y : ExpForm = e.Project' tt (its p x alone) l in
     let n : Label = label_at s l in
     let a : IsSettled w y s st m o = settled_by w y s st m o h in
@@ -113,6 +109,6 @@ project_sound told w p x l k s kd st m o h d g =
     let u : (v : NormalType) × (field_type n t.0 ≡ Some v) × (projected_of s l c.0 v ≡ Some o) = opened _ _ o t.2 in
     let b : Out = record { of = u.0; exp = make.project c.0.exp n; sites = c.0.sites } in
     sound_at w y s st m d b o a u.2 g (λ acc fit g'.
-    let i : IsSound w x s st finds d c.0 = k s kd.1 st finds c.0 c.1 d g' in
+    let i : IsSound w x s st finds d c.0 = k s st finds c.0 c.1 d g' in
     let f : Finds (stated d w).declared w.most s.env c.0.exp (record_of t.0) × Accepts w.most c.0.exp (record_of t.0) = subst (λ z. Finds (stated d w).declared w.most s.env c.0.exp z × Accepts w.most c.0.exp z) (row_is c.0.of t.0 t.1) (i.judged.0, i.judged.1) in
-    record { before = i.before; numbered = numbered_end i.numbered; resolves = resolves.project i.resolves (label_written s l kd.0); judged = judged_by told (stated d w) s m b.exp b.of (t.0, f, u.1) (t.0, f, u.1) acc fit })
+    record { before = i.before; numbered = numbered_end i.numbered; resolves = resolves.project i.resolves refl; judged = judged_by told (stated d w) s m b.exp b.of (t.0, f, u.1) (t.0, f, u.1) acc fit })

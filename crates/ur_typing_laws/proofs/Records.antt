@@ -30,9 +30,8 @@ use Rattle.ur_typed.specs.Resolves.{Statements, ResolvesFields, fields_none, fie
 use Rattle.ur_typed.specs.Resolves as resolves
 use Rattle.ur_typed.specs.Rules.{Sites, Out, gives, Fields, no_fields, with_field}
 use Rattle.ur_typed.specs.Walking.{typed, fields_walk}
-use Rattle.ur_typing_laws.specs.Judged.{AreTold, FieldsAreKinded, Judged, Fills, stated, Numbered, IsSound, Sound}
+use Rattle.ur_typing_laws.specs.Judged.{AreTold, Judged, Fills, stated, Numbered, IsSound, Sound}
 use Rattle.ur_typing_laws.proofs.Sound.{IsSettled, settled_by, sound_at}
-use Rattle.ur_typing_laws.proofs.Names.{label_written}
 use Rattle.ur_typing_laws.proofs.Numbers.{numbered_none, numbered_both}
 use Rattle.ur_type_rules.specs.Rules.{if_so, label_at}
 use Rattle.ur_type_rules.proofs.Options.{some_of, opened, opened_if, mapped}
@@ -117,24 +116,24 @@ field_judged w s (wants t) l o z i j k = λ each.
     let v : Judged w s (wants c.0) o.exp o.of = subst (λ n. Judged w s n o.exp o.of) c.1 j in
     (o.of, z.row, refl, i, subst (λ u. Checks w.declared w.most s.env o.exp u) (sym v.0) v.1, subst (λ u. Accepts w.most o.exp u) (sym v.0) v.2, k (λ n h. each n (has_further n (field l o.of) z.row h)))
 
-fields_sound : (w : World) (n : Count) (fs : Row_of-Field n) → AreSoundFields w fs → (s : Scope) → FieldsAreKinded s.names.cons fs → (st : Sites) (m : Mode) (r : Fields) → fields_walk w fs s st m ≡ Some r → (d : Statements) → Fills w d r.sites → FieldsAreSound w n fs s st m d r
-fields_sound w _ end_of-Field k s kd st m r h d g =
+fields_sound : (w : World) (n : Count) (fs : Row_of-Field n) → AreSoundFields w fs → (s : Scope) (st : Sites) (m : Mode) (r : Fields) → fields_walk w fs s st m ≡ Some r → (d : Statements) → Fills w d r.sites → FieldsAreSound w n fs s st m d r
+fields_sound w _ end_of-Field k s st m r h d g =
     let i : no_fields st ≡ r = some_of h in
     subst (λ v. FieldsAreSound w _ end_of-Field s st m d v) i (record { before = subst (λ v. Fills w d v.sites) (sym i) g; resolves = fields_none; judged = none_judged (stated d w) s m st; numbered = numbered_none st }) where
       none_judged : (w : World) (s : Scope) (m : Mode) (st : Sites) → FieldsJudged w s m (no_fields st)
       none_judged w s finds st = refl
       none_judged w s (wants t) st = λ each. refl
-fields_sound w _ (more_of-Field {n = n} f p x rest) k s kd st m r h d g =
+fields_sound w _ (more_of-Field {n = n} f p x rest) k s st m r h d g =
     let l : Label = label_at s f in
     let c : (label_is_in (variables s.env) l ≡ true) × (option_and_then (λ o. option_map (with_field l o) (fields_walk w rest s o.sites m)) (typed w x s st (of_field l m)) ≡ Some r) = opened_if (label_is_in (variables s.env) l) _ r h in
     let v : (o : Out) × (typed w x s st (of_field l m) ≡ Some o) × (option_map (with_field l o) (fields_walk w rest s o.sites m) ≡ Some r) = opened _ _ r c.1 in
     let y : (z : Fields) × (fields_walk w rest s v.0.sites m ≡ Some z) × (with_field l v.0 z ≡ r) = mapped _ _ r v.2 in
-    let ir : FieldsAreSound w n rest s v.0.sites m d y.0 = fields_sound w n rest k.1 s kd.1.1 v.0.sites m y.0 y.1 d (subst (λ z. Fills w d z.sites) (sym y.2) g) in
-    let ix : IsSound w x s st (of_field l m) d v.0 = k.0 s kd.1.0 st (of_field l m) v.0 v.1 d ir.before in
+    let ir : FieldsAreSound w n rest s v.0.sites m d y.0 = fields_sound w n rest k.1 s v.0.sites m y.0 y.1 d (subst (λ z. Fills w d z.sites) (sym y.2) g) in
+    let ix : IsSound w x s st (of_field l m) d v.0 = k.0 s st (of_field l m) v.0 v.1 d ir.before in
     subst (λ z. FieldsAreSound w _ (more_of-Field f p x rest) s st m d z) y.2 (record {
       before = ix.before;
       numbered = numbered_both ix.numbered ir.numbered;
-      resolves = fields_one (label_written s f kd.0) ix.resolves ir.resolves;
+      resolves = fields_one refl ix.resolves ir.resolves;
       judged = field_judged (stated d w) s m l v.0 y.0 c.0 ix.judged ir.judged;
     })
 
@@ -147,16 +146,16 @@ each_wanted : (r : List Part) (t : NormalType) → record_of r ≡ t → WantsEa
 each_wanted r t q l h = subst (λ v. (u : NormalType) × (of_field l (wants v) ≡ wants u)) q (h.0, ap if_typed (ap (field_type l) (parts-row r) ∙ h.1))
 
 pub record_sound : AreTold → (w : World) (n : Shape) (fs : Row_of-Field (count n)) → AreSoundFields w fs → Sound w (e.Record' n fs)
-record_sound told w n fs k s kd st finds o h d g =
+record_sound told w n fs k s st finds o h d g =
     let f : ExpForm = e.Record' n fs in
     let a : IsSettled w f s st finds o = settled_by w f s st finds o h in
     let c : (r : Fields) × (fields_walk w fs s st finds ≡ Some r) × (recorded_of s r ≡ Some o) = opened _ _ o a.walked in
     let q : (are_apart s.env.known c.0.row ≡ true) × (gives (record_of c.0.row) (exp.Record' c.0.exps.0 c.0.exps.1) c.0.sites ≡ Some o) = opened_if (are_apart s.env.known c.0.row) (gives (record_of c.0.row) (exp.Record' c.0.exps.0 c.0.exps.1) c.0.sites) o c.2 in
     let b : Out = record { of = record_of c.0.row; exp = exp.Record' c.0.exps.0 c.0.exps.1; sites = c.0.sites } in
     sound_at w f s st finds d b o a q.1 g (λ acc fit g'.
-    let i : FieldsAreSound w _ fs s st finds d c.0 = fields_sound w _ fs k s kd st finds c.0 c.1 d g' in
+    let i : FieldsAreSound w _ fs s st finds d c.0 = fields_sound w _ fs k s st finds c.0 c.1 d g' in
     record { before = i.before; numbered = i.numbered; resolves = resolves.record_literal i.resolves; judged = ((c.0.row, refl, i.judged, (one_row s.env.known c.0.row).0 q.0), acc) })
-record_sound told w n fs k s kd st (wants t) o h d g =
+record_sound told w n fs k s st (wants t) o h d g =
     let f : ExpForm = e.Record' n fs in
     let a : IsSettled w f s st (wants t) o = settled_by w f s st (wants t) o h in
     let c : (r : Fields) × (fields_walk w fs s st (wants t) ≡ Some r) × (recorded_of s r ≡ Some o) = opened _ _ o a.walked in
@@ -164,7 +163,7 @@ record_sound told w n fs k s kd st (wants t) o h d g =
     let b : Out = record { of = record_of c.0.row; exp = exp.Record' c.0.exps.0 c.0.exps.1; sites = c.0.sites } in
     sound_at w f s st (wants t) d b o a q.1 g (λ acc fit g'.
     let r : record_of c.0.row ≡ t = told (record_of c.0.row) t fit in
-    let i : FieldsAreSound w _ fs s st (wants t) d c.0 = fields_sound w _ fs k s kd st (wants t) c.0 c.1 d g' in
+    let i : FieldsAreSound w _ fs s st (wants t) d c.0 = fields_sound w _ fs k s st (wants t) c.0 c.1 d g' in
     record {
       before = i.before;
       numbered = i.numbered;

@@ -57,7 +57,7 @@ judged_by told w s (wants u) x t f c a h = let e : t ≡ u = told t u h in (e, s
 -- ---- forms
 
 pub int_sound : AreTold → (w : World) (n : ℕ) → Sound w (e.Int n)
-int_sound told w n s kd st m o h d g =
+int_sound told w n s st m o h d g =
     let a : IsSettled w (e.Int n) s st m o = settled_by w (e.Int n) s st m o h in
     let b : Out = record { of = ty.Int; exp = exp.Int (pos n); sites = st } in
     let i : b ≡ o = some_of a.walked in
@@ -74,33 +74,33 @@ sound_at w x s st m d b o a i g k =
     subst (λ z. IsSound w x s st m d z) e (k (subst (λ z. Accepts w.most z.exp z.of) (sym e) a.accepted) (subst (λ z. fits m z.of ≡ true) (sym e) a.fit) (subst (λ z. Fills w d z.sites) (sym e) g))
 
 pub string_sound : AreTold → (w : World) (t : List ℕ) → Sound w (e.Str t)
-string_sound told w t s kd st m o h d g =
+string_sound told w t s st m o h d g =
     let a : IsSettled w (e.Str t) s st m o = settled_by w (e.Str t) s st m o h in
     let b : Out = record { of = ty.Str; exp = exp.Str t; sites = st } in
     sound_at w (e.Str t) s st m d b o a a.walked g (λ acc fit g'. record { before = g'; numbered = numbered_none st; resolves = resolves.string; judged = judged_by told (stated d w) s m b.exp ty.Str refl refl acc fit })
 
 pub unit_sound : AreTold → (w : World) → Sound w e.Unit
-unit_sound told w s kd st m o h d g =
+unit_sound told w s st m o h d g =
     let a : IsSettled w e.Unit s st m o = settled_by w e.Unit s st m o h in
     let b : Out = record { of = unit; exp = exp.Unit; sites = st } in
     sound_at w e.Unit s st m d b o a a.walked g (λ acc fit g'. record { before = g'; numbered = numbered_none st; resolves = resolves.unit_value; judged = judged_by told (stated d w) s m exp.Unit unit refl refl acc fit })
 
 pub negative_sound : AreTold → (w : World) (p : Span) (x : ExpForm) → Sound w x → Sound w (e.Negative' tt (its p x alone))
-negative_sound told w p x k s kd st m o h d g =
+negative_sound told w p x k s st m o h d g =
     let y : ExpForm = e.Negative' tt (its p x alone) in
     let a : IsSettled w y s st m o = settled_by w y s st m o h in
     let c : (z : Out) × (typed w x s st (wants ty.Int) ≡ Some z) × (◌≡◌ {A = Option Out} (Some (record { of = ty.Int; exp = make.unary unary.Neg z.exp; sites = z.sites })) (Some o)) = opened _ _ o a.walked in
     let b : Out = record { of = ty.Int; exp = make.unary unary.Neg c.0.exp; sites = c.0.sites } in
     sound_at w y s st m d b o a c.2 g (λ acc fit g'.
-    let i : IsSound w x s st (wants ty.Int) d c.0 = k s kd st (wants ty.Int) c.0 c.1 d g' in
+    let i : IsSound w x s st (wants ty.Int) d c.0 = k s st (wants ty.Int) c.0 c.1 d g' in
     record { before = i.before; numbered = numbered_end i.numbered; resolves = resolves.negative i.resolves; judged = judged_by told (stated d w) s m b.exp ty.Int (refl, (i.judged.1, i.judged.2)) (refl, (i.judged.1, i.judged.2)) acc fit })
 
 pub not_sound : AreTold → (w : World) (p : Span) (x : ExpForm) → Sound w x → Sound w (e.Not' tt (its p x alone))
-not_sound told w p x k s kd st m o h d g =
+not_sound told w p x k s st m o h d g =
     let y : ExpForm = e.Not' tt (its p x alone) in
     let a : IsSettled w y s st m o = settled_by w y s st m o h in
     let c : (z : Out) × (typed w x s st (wants ty.Bool) ≡ Some z) × (◌≡◌ {A = Option Out} (Some (record { of = ty.Bool; exp = make.unary unary.Not z.exp; sites = z.sites })) (Some o)) = opened _ _ o a.walked in
     let b : Out = record { of = ty.Bool; exp = make.unary unary.Not c.0.exp; sites = c.0.sites } in
     sound_at w y s st m d b o a c.2 g (λ acc fit g'.
-    let i : IsSound w x s st (wants ty.Bool) d c.0 = k s kd st (wants ty.Bool) c.0 c.1 d g' in
+    let i : IsSound w x s st (wants ty.Bool) d c.0 = k s st (wants ty.Bool) c.0 c.1 d g' in
     record { before = i.before; numbered = numbered_end i.numbered; resolves = resolves.negation i.resolves; judged = judged_by told (stated d w) s m b.exp ty.Bool (refl, (i.judged.1, i.judged.2)) (refl, (i.judged.1, i.judged.2)) acc fit })

@@ -7,7 +7,6 @@ use mathlib.Core.List.{append_assoc}
 use mathlib.Core.Former.{Count}
 use Rattle.ur_base.specs.Shape.{Shape, count}
 use Rattle.ur_base.specs.declared.refusal.Span.{Span}
-use Rattle.ur_syntax.specs.declared.con.ConEnv.{ConEnv}
 use Rattle.ur_syntax.specs.declared.sql.SqlQuery.{SqlQuery}
 use Rattle.ur_syntax.specs.declared.sql.SqlChange.{SqlChange}
 use Rattle.ur_syntax.specs.declared.exp.Binder.{Binder}
@@ -53,7 +52,7 @@ use Rattle.ur_typed.specs.Typed.{sites_in, updates_in, CountsFrom}
 use Rattle.ur_typed.specs.Rules.{Sites, Out, fits, gives, Antiquotes, no_antiquotes, with_antiquote, with_query_slot, with_change_slot, with_query, with_change, query_at, change_at, answer_of, row_param, rows_out}
 use Rattle.ur_typed.specs.Walking.{typed, antiquotes_walk, row_walk}
 use Rattle.ur_typed.specs.Causes.{is_lambda}
-use Rattle.ur_typing_laws.specs.Judged.{AreTold, ParamsAreKinded, env_behind, IsKinded, AreKinded, Fills, stated, Numbered, Judged, IsSound, Sound}
+use Rattle.ur_typing_laws.specs.Judged.{AreTold, Fills, stated, Numbered, Judged, IsSound, Sound}
 use Rattle.ur_typing_laws.proofs.Sql.{query_is, change_is}
 use Rattle.ur_typing_laws.proofs.Sound.{at_most, IsSettled, settled_by, judged_by, sound_at}
 use Rattle.ur_typing_laws.proofs.Folding.{BodyIsSound}
@@ -74,15 +73,15 @@ record AntiquotesAreSound (w : World) (s : Scope) (n : Count) (xs : Row_of-Exp n
   found : AreFound (stated d w).declared w.most s.env a.exps.1 a.types
   numbered : Numbered st (occurrences_of a.exps.1) a.sites
 
-antiquotes_sound : (w : World) (s : Scope) (n : Count) (xs : Row_of-Exp n) → RowIsSound w xs → AreKinded s.names.cons xs → (st : Sites) (a : Antiquotes) → antiquotes_walk w xs s st ≡ Some a → (d : Statements) → Fills w d a.sites → AntiquotesAreSound w s n xs st d a
-antiquotes_sound w s _ alone k kd st a h d g =
+antiquotes_sound : (w : World) (s : Scope) (n : Count) (xs : Row_of-Exp n) → RowIsSound w xs → (st : Sites) (a : Antiquotes) → antiquotes_walk w xs s st ≡ Some a → (d : Statements) → Fills w d a.sites → AntiquotesAreSound w s n xs st d a
+antiquotes_sound w s _ alone k st a h d g =
     let i : no_antiquotes st ≡ a = some_of h in
     subst (λ v. AntiquotesAreSound w s _ alone st d v) i (record { before = subst (λ v. Fills w d v.sites) (sym i) g; resolve = all_none; found = refl; numbered = numbered_none st })
-antiquotes_sound w s _ (its {n = n} p x rest) k kd st a h d g =
+antiquotes_sound w s _ (its {n = n} p x rest) k st a h d g =
     let c : (o : Out) × (typed w x s st finds ≡ Some o) × (option_map (with_antiquote o) (antiquotes_walk w rest s o.sites) ≡ Some a) = opened _ _ a h in
     let v : (z : Antiquotes) × (antiquotes_walk w rest s c.0.sites ≡ Some z) × (with_antiquote c.0 z ≡ a) = mapped _ _ a c.2 in
-    let ir : AntiquotesAreSound w s n rest c.0.sites d v.0 = antiquotes_sound w s n rest k.1 kd.1 c.0.sites v.0 v.1 d (subst (λ z. Fills w d z.sites) (sym v.2) g) in
-    let ix : IsSound w x s st finds d c.0 = k.0 s kd.0 st finds c.0 c.1 d ir.before in
+    let ir : AntiquotesAreSound w s n rest c.0.sites d v.0 = antiquotes_sound w s n rest k.1 c.0.sites v.0 v.1 d (subst (λ z. Fills w d z.sites) (sym v.2) g) in
+    let ix : IsSound w x s st finds d c.0 = k.0 s st finds c.0 c.1 d ir.before in
     subst (λ z. AntiquotesAreSound w s _ (its p x rest) st d z) v.2 (record { before = ix.before; resolve = all_one ix.resolves ir.resolve; found = (c.0.of, v.0.types, refl, ix.judged.0, ix.judged.1, ir.found); numbered = numbered_both ix.numbered ir.numbered })
 
 kind_is : (t : NormalType) (k : ColumnKind) → type_kind t ≡ Some k → t ≡ kind_type k
@@ -172,12 +171,12 @@ record Asked (w : World) (s : Scope) (st : Sites) (n : Shape) (args : Row_of-Exp
 abbrev pub columns_of : World → Query → List ColumnKind × List RowPart
 columns_of w q = (q.params, query_row w.fields q)
 
-asked : (w : World) (s : Scope) (st : Sites) (n : Shape) (args : Row_of-Exp (count n)) (q : SqlQuery) (a : Antiquotes) (c : Query) (d : Statements) → RowIsSound w args → AreKinded s.names.cons args → antiquotes_walk w args s (with_query_slot st) ≡ Some a → query_at w q a ≡ Some c →
+asked : (w : World) (s : Scope) (st : Sites) (n : Shape) (args : Row_of-Exp (count n)) (q : SqlQuery) (a : Antiquotes) (c : Query) (d : Statements) → RowIsSound w args → antiquotes_walk w args s (with_query_slot st) ≡ Some a → query_at w q a ≡ Some c →
     Fills w d (with_query (length st.queries) c a.sites) → Asked w s st n args q a c d
-asked w s st n args q a c d k kd ea ec f =
-    let N : Numbered (with_query_slot st) (occurrences_of a.exps.1) a.sites = (antiquotes_sound w s _ args k kd (with_query_slot st) a ea (filled w a.sites) (fills_filled w a.sites)).numbered in
+asked w s st n args q a c d k ea ec f =
+    let N : Numbered (with_query_slot st) (occurrences_of a.exps.1) a.sites = (antiquotes_sound w s _ args k (with_query_slot st) a ea (filled w a.sites) (fills_filled w a.sites)).numbered in
     let g : Fills w d a.sites = before_query w d st a.sites (occurrences_of a.exps.1) c N f in
-    let i : AntiquotesAreSound w s _ args (with_query_slot st) d a = antiquotes_sound w s _ args k kd (with_query_slot st) a ea d g in
+    let i : AntiquotesAreSound w s _ args (with_query_slot st) d a = antiquotes_sound w s _ args k (with_query_slot st) a ea d g in
     let ks : (ks : List ColumnKind) × (all_of type_kind a.types ≡ Some ks) × (query_of w.globals.home w.globals.tables w.fields ks q ≡ Some c) = opened _ _ c ec in
     let is : IsQuery w.globals.home w.globals.tables w.fields ks.0 q c = query_is w.globals.home w.globals.tables w.fields ks.0 q c ks.2 in
     let t : a.types ≡ map kind_type c.params = kinds_are a.types ks.0 ks.1 ∙ ap (map kind_type) (sym is.params) in
@@ -201,14 +200,14 @@ abbrev pub asked_of : World → QueryWord → Sites → Antiquotes → Query →
 asked_of w how st a c = gives (transaction_of (answer_type (answer_of how) (query_row w.fields c))) (exp.Ask' (answer_of how) (length st.queries) a.exps.0 a.exps.1) (with_query (length st.queries) c a.sites)
 
 pub query_sound : AreTold → (w : World) (how : QueryWord) (q : SqlQuery) (n : Shape) (args : Row_of-Exp (count n)) → RowIsSound w args → Sound w (e.Query' how q n args)
-query_sound told w how q n args k s kd st m o h d g =
+query_sound told w how q n args k s st m o h d g =
     let y : ExpForm = e.Query' how q n args in
     let v : IsSettled w y s st m o = settled_by w y s st m o h in
     let a : (z : Antiquotes) × (antiquotes_walk w args s (with_query_slot st) ≡ Some z) × (option_and_then (asked_of w how st z) (query_at w q z) ≡ Some o) = opened _ _ o v.walked in
     let c : (z : Query) × (query_at w q a.0 ≡ Some z) × (asked_of w how st a.0 z ≡ Some o) = opened _ _ o a.2 in
     let b : Out = record { of = transaction_of (answer_type (answer_of how) (query_row w.fields c.0)); exp = exp.Ask' (answer_of how) (length st.queries) a.0.exps.0 a.0.exps.1; sites = with_query (length st.queries) c.0 a.0.sites } in
     sound_at w y s st m d b o v c.2 g (λ acc fit g'.
-    let i : Asked w s st n args q a.0 c.0 d = asked w s st n args q a.0 c.0 d k kd a.1 c.1 g' in
+    let i : Asked w s st n args q a.0 c.0 d = asked w s st n args q a.0 c.0 d k a.1 c.1 g' in
     let F : Finds (stated d w).declared w.most s.env b.exp b.of = ((c.0.params, query_row w.fields c.0), i.row, i.found, refl) in
     record { before = i.before; numbered = i.numbered; resolves = resolves.query (is_answer how) i.there i.core i.resolve; judged = judged_by told (stated d w) s m b.exp b.of F F acc fit })
 
@@ -221,16 +220,16 @@ abbrev pub params_of : Change → List ColumnKind
 params_of u = u.params
 
 pub change_sound : AreTold → (w : World) (u : SqlChange) (n : Shape) (args : Row_of-Exp (count n)) → RowIsSound w args → Sound w (e.Dml' u n args)
-change_sound told w u n args k s kd st m o h d g =
+change_sound told w u n args k s st m o h d g =
     let y : ExpForm = e.Dml' u n args in
     let v : IsSettled w y s st m o = settled_by w y s st m o h in
     let a : (z : Antiquotes) × (antiquotes_walk w args s (with_change_slot st) ≡ Some z) × (option_and_then (written_of st z) (change_at w u z) ≡ Some o) = opened _ _ o v.walked in
     let c : (z : Change) × (change_at w u a.0 ≡ Some z) × (written_of st a.0 z ≡ Some o) = opened _ _ o a.2 in
     let b : Out = record { of = transaction_of unit; exp = exp.Write' (length st.changes) a.0.exps.0 a.0.exps.1; sites = with_change (length st.changes) c.0 a.0.sites } in
     sound_at w y s st m d b o v c.2 g (λ acc fit f.
-    let N : Numbered (with_change_slot st) (occurrences_of a.0.exps.1) a.0.sites = (antiquotes_sound w s _ args k kd (with_change_slot st) a.0 a.1 (filled w a.0.sites) (fills_filled w a.0.sites)).numbered in
+    let N : Numbered (with_change_slot st) (occurrences_of a.0.exps.1) a.0.sites = (antiquotes_sound w s _ args k (with_change_slot st) a.0 a.1 (filled w a.0.sites) (fills_filled w a.0.sites)).numbered in
     let g' : Fills w d a.0.sites = before_change w d st a.0.sites (occurrences_of a.0.exps.1) c.0 N f in
-    let i : AntiquotesAreSound w s _ args (with_change_slot st) d a.0 = antiquotes_sound w s _ args k kd (with_change_slot st) a.0 a.1 d g' in
+    let i : AntiquotesAreSound w s _ args (with_change_slot st) d a.0 = antiquotes_sound w s _ args k (with_change_slot st) a.0 a.1 d g' in
     let ks : (ks : List ColumnKind) × (all_of type_kind a.0.types ≡ Some ks) × (change_of w.globals.home w.globals.tables ks u ≡ Some c.0) = opened _ _ c.0 c.1 in
     let is : IsChange w.globals.home w.globals.tables ks.0 u c.0 = change_is w.globals.home w.globals.tables ks.0 u c.0 ks.2 in
     let t : a.0.types ≡ map kind_type c.0.params = kinds_are a.0.types ks.0 ks.1 ∙ ap (map kind_type) (sym is.params) in
@@ -245,27 +244,21 @@ change_sound told w u n args k s kd st m o h d g =
 
 -- ---- `queryX`
 
--- the row function binds no constructor
-row_env : (w : World) (s : Scope) (r : List RowPart) (env : ConEnv) (ps : List LambdaParam) (x : Binder) → row_param w s r ps ≡ Some x → env_behind env ps ≡ env
-row_env w s r env (lambda_param.Bare y ∷ []) x h = refl
-row_env w s r env (lambda_param.Typed (written_param.Value y c) ∷ []) x h = refl
-row_env w s r env _ x h = cc
-
 abbrev an_each : SqlQuery → (n : Shape) → Row_of-Exp (count n) → Span → List LambdaParam → Span → ExpForm → ExpForm
 an_each q n args p ps r b = e.QueryX' q n args tt (its p (e.Lambda' ps tt (its r b alone)) alone)
 
-each_resolves : AreTold → (w : World) (s : Scope) (d : Statements) (q : SqlQuery) (n : Shape) (args : Row_of-Exp (count n)) (p : Span) (ps : List LambdaParam) (r : Span) (b : ExpForm) (k : ℕ) (c : Query) (z : Shape) (out : Row_of-Resolved (count z)) (B : Exp) (x : Binder) → ParamsAreKinded s.names.cons ps → d.names ≡ w.fields →
+each_resolves : AreTold → (w : World) (s : Scope) (d : Statements) (q : SqlQuery) (n : Shape) (args : Row_of-Exp (count n)) (p : Span) (ps : List LambdaParam) (r : Span) (b : ExpForm) (k : ℕ) (c : Query) (z : Shape) (out : Row_of-Resolved (count z)) (B : Exp) (x : Binder) → d.names ≡ w.fields →
     row_param w s (query_row w.fields c) ps ≡ Some x → slice_get d.queries k ≡ Some c → IsQuery w.globals.home w.globals.tables d.names c.params q c → ResolvesAll d w.most w.globals (stated d w).declared s.names _ args _ out →
     Resolves d w.most w.globals (stated d w).declared (with_local (here.value (bound_name x)) s.names) b B → Resolves d w.most w.globals (stated d w).declared s.names (an_each q n args p ps r b) (make.each k z out B)
-each_resolves told w s d q n args p (lambda_param.Bare y ∷ []) r b k c z out B x kd en h th core ra rb =
+each_resolves told w s d q n args p (lambda_param.Bare y ∷ []) r b k c z out B x en h th core ra rb =
     resolves.query_each th core ra (subst (λ v. Resolves d w.most w.globals (stated d w).declared (with_local (here.value (bound_name v)) s.names) b B) (sym (some_of h)) rb)
-each_resolves told w s d q n args p (lambda_param.Typed (written_param.Value y c') ∷ []) r b k c z out B x kd en h th core ra rb =
+each_resolves told w s d q n args p (lambda_param.Typed (written_param.Value y c') ∷ []) r b k c z out B x en h th core ra rb =
     let t : (t : NormalType) × (small_type w.most (nf s.names.cons c') ≡ Some t) × (if_so (same_type t (record_of (query_row w.fields c))) (Some y) ≡ Some x) = opened _ _ x h in
     let v : (nat_le (nodes (nf s.names.cons c')) w.most ≡ true) × (Some (as_type (nf s.names.cons c')) ≡ Some t.0) = opened_if (nat_le (nodes (nf s.names.cons c')) w.most) (Some (as_type (nf s.names.cons c'))) t.0 t.1 in
     let u : (same_type t.0 (record_of (query_row w.fields c)) ≡ true) × (Some y ≡ Some x) = opened_if (same_type t.0 (record_of (query_row w.fields c))) (Some y) x t.2 in
-    let i : WritesType w.most s.names.cons c' (record_of (query_row w.fields c)) = (nf s.names.cons c', record { kinded = kd.0; form = refl; small = at_most (nodes (nf s.names.cons c')) w.most v.0 }, sym (told t.0 (record_of (query_row w.fields c)) u.0) ∙ sym (some_of v.1)) in
+    let i : WritesType w.most s.names.cons c' (record_of (query_row w.fields c)) = (nf s.names.cons c', record { form = refl; small = at_most (nodes (nf s.names.cons c')) w.most v.0 }, sym (told t.0 (record_of (query_row w.fields c)) u.0) ∙ sym (some_of v.1)) in
     resolves.query_each_typed (query_row w.fields c) th core (ap (λ z. query_row z c) en) i ra (subst (λ v. Resolves d w.most w.globals (stated d w).declared (with_local (here.value (bound_name v)) s.names) b B) (sym (some_of u.1)) rb)
-each_resolves told w s d q n args p _ r b k c z out B x kd en h th core ra rb = cc
+each_resolves told w s d q n args p _ r b k c z out B x en h th core ra rb = cc
 
 abbrev pub rows_at : World → Scope → Sites → Mode → Antiquotes → Query → ExpForm → Binder → Option Out
 rows_at w s st m a c b x = typed w b (within_binder x (record_of (query_row w.fields c)) s) (with_query (length st.queries) c a.sites) (of_transaction m)
@@ -285,7 +278,7 @@ each_judged told w s (wants u) k z out b t c x o ek f j eo acc fit =
     (q, (c, t, ek, f, (i.1, i.2), (o, eo), sym q), subst (λ v. Accepts w.most (make.each k z out b) v) q acc)
 
 each_lambda : AreTold → (w : World) (q : SqlQuery) (n : Shape) (args : Row_of-Exp (count n)) (p : Span) (ps : List LambdaParam) (r : Span) (b : ExpForm) → RowIsSound w args → Sound w b → Sound w (an_each q n args p ps r b)
-each_lambda told w q n args p ps r b k kb s kd st m o h d g =
+each_lambda told w q n args p ps r b k kb s st m o h d g =
     let y : ExpForm = an_each q n args p ps r b in
     let v : IsSettled w y s st m o = settled_by w y s st m o h in
     let a : (z : Antiquotes) × (antiquotes_walk w args s (with_query_slot st) ≡ Some z) × (option_and_then (each_of w s st m p (e.Lambda' ps tt (its r b alone)) z) (query_at w q z) ≡ Some o) = opened _ _ o v.walked in
@@ -295,15 +288,14 @@ each_lambda told w q n args p ps r b k kb s kd st m o h d g =
     let t : (t : Sort) × (sort_of l.0.of ≡ Some t) × (shown_rows st a.0 l.0 t ≡ Some o) = opened _ _ o l.2 in
     let s' : Scope = within_binder x.0 (record_of (query_row w.fields c.0)) s in
     let su : Sites = with_query (length st.queries) c.0 a.0.sites in
-    let kz : IsKinded s.names.cons b = subst (λ env. IsKinded env b) (row_env w s (query_row w.fields c.0) s.names.cons ps x.0 x.1) kd.1.0.1 in
     let out : Out = record { of = transaction_of l.0.of; exp = make.each (length st.queries) a.0.exps.0 a.0.exps.1 l.0.exp; sites = l.0.sites } in
     sound_at w y s st m d out o v t.2 g (λ acc fit g'.
-    let ib : IsSound w b s' su (of_transaction m) d l.0 = kb s' kz su (of_transaction m) l.0 x.2 d g' in
-    let i : Asked w s st n args q a.0 c.0 d = asked w s st n args q a.0 c.0 d k kd.0 a.1 c.1 ib.before in
+    let ib : IsSound w b s' su (of_transaction m) d l.0 = kb s' su (of_transaction m) l.0 x.2 d g' in
+    let i : Asked w s st n args q a.0 c.0 d = asked w s st n args q a.0 c.0 d k a.1 c.1 ib.before in
     record {
       before = i.before;
       numbered = numbered_both i.numbered (numbered_end ib.numbered);
-      resolves = each_resolves told w s d q n args p ps r b (length st.queries) c.0 a.0.exps.0 a.0.exps.1 l.0.exp x.0 kd.1.0.0 g'.names x.1 i.there i.core i.resolve ib.resolves;
+      resolves = each_resolves told w s d q n args p ps r b (length st.queries) c.0 a.0.exps.0 a.0.exps.1 l.0.exp x.0 g'.names x.1 i.there i.core i.resolve ib.resolves;
       judged = each_judged told (stated d w) s m (length st.queries) a.0.exps.0 a.0.exps.1 l.0.exp l.0.of (c.0.params, query_row w.fields c.0) x.0 t.0 i.row i.found ib.judged t.1 acc fit;
     })
 
@@ -312,7 +304,7 @@ no_row_lambda w s r st m p (e.Lambda' ps _ x) h = cc
 no_row_lambda w s r st m p _ h = refl
 
 each_other : (w : World) (q : SqlQuery) (n : Shape) (args : Row_of-Exp (count n)) (p : Span) (x : ExpForm) → is_lambda x ≡ false → Sound w (e.QueryX' q n args tt (its p x alone))
-each_other w q n args p x i s kd st m o h d g =
+each_other w q n args p x i s st m o h d g =
     let y : ExpForm = e.QueryX' q n args tt (its p x alone) in
     let v : IsSettled w y s st m o = settled_by w y s st m o h in
     let a : (z : Antiquotes) × (antiquotes_walk w args s (with_query_slot st) ≡ Some z) × (option_and_then (each_of w s st m p x z) (query_at w q z) ≡ Some o) = opened _ _ o v.walked in

@@ -296,9 +296,9 @@ project_walked w d names p x f b l k c env m t j st g n =
     let q : IsFound (stated d w) s m y t = found_by (stated d w) s m y t refl j in
     let r : List Part = q.rule.0 in
     let i : IsWalked w d x s st finds b (record_of r) = k env finds (record_of r) (q.rule.1.0, q.rule.1.1) st g (starts_end (occurrences b) n) in
-    let a : field_type (label_at s f) r ≡ Some t = ap (λ z. field_type z r) (sym c.1) ∙ q.rule.2 in
+    let a : field_type (label_at s f) r ≡ Some t = ap (λ z. field_type z r) (sym c) ∙ q.rule.2 in
     let h : walk w (e.Project' tt (its p x alone) f) s st m ≡ Some (out_of t y i.sites) =
-    then_some _ _ (out_of (record_of r) b i.sites) _ i.walked (then_some (projected_by s f (out_of (record_of r) b i.sites)) (row_of (record_of r)) r _ (row_back r) (then_some (projected s f (out_of (record_of r) b i.sites)) (field_type (label_at s f) r) t _ a (ap (λ z. Some (out_of t (make.project b z) i.sites)) (sym c.1)))) in
+    then_some _ _ (out_of (record_of r) b i.sites) _ i.walked (then_some (projected_by s f (out_of (record_of r) b i.sites)) (row_of (record_of r)) r _ (row_back r) (then_some (projected s f (out_of (record_of r) b i.sites)) (field_type (label_at s f) r) t _ a (ap (λ z. Some (out_of t (make.project b z) i.sites)) (sym c)))) in
     record { sites = i.sites; walked = typed_by w (e.Project' tt (its p x alone) f) s st m (out_of t y i.sites) h q.accepts q.fit; fills = i.fills; numbered = numbered_end i.numbered }
 
 pub cut_walked : (w : World) (d : Statements) (names : Names) (p : Span) (x : ExpForm) (f : Removed) (b : Exp) (l : Label) → Walks w d names x b → WritesLabel names.cons f.name l → Walks w d names (e.Remove' tt (its p x alone) f) (make.cut b l)
@@ -308,10 +308,10 @@ cut_walked w d names p x f b l k c env m t j st g n =
     let q : IsFound (stated d w) s m y t = found_by (stated d w) s m y t refl j in
     let r : List Part = q.rule.0 in
     let i : IsWalked w d x s st finds b (record_of r) = k env finds (record_of r) (q.rule.2.0, q.rule.2.1) st g (starts_end (occurrences b) n) in
-    let a : field_type (label_at s f.name) r ≡ Some q.rule.1 = ap (λ z. field_type z r) (sym c.1) ∙ q.rule.3 in
-    let v : record_of (without (label_at s f.name) r) ≡ t = ap (λ z. record_of (without z r)) (sym c.1) ∙ sym q.rule.4 in
+    let a : field_type (label_at s f.name) r ≡ Some q.rule.1 = ap (λ z. field_type z r) (sym c) ∙ q.rule.3 in
+    let v : record_of (without (label_at s f.name) r) ≡ t = ap (λ z. record_of (without z r)) (sym c) ∙ sym q.rule.4 in
     let h : walk w (e.Remove' tt (its p x alone) f) s st m ≡ Some (out_of t y i.sites) =
-    then_some _ _ (out_of (record_of r) b i.sites) _ i.walked (then_some (left_by s f.name (out_of (record_of r) b i.sites)) (row_of (record_of r)) r _ (row_back r) (then_some (left_of s f.name (out_of (record_of r) b i.sites) r) (field_type (label_at s f.name) r) q.rule.1 _ a (ap₂ (λ u z. Some (out_of u (make.cut b z) i.sites)) v (sym c.1)))) in
+    then_some _ _ (out_of (record_of r) b i.sites) _ i.walked (then_some (left_by s f.name (out_of (record_of r) b i.sites)) (row_of (record_of r)) r _ (row_back r) (then_some (left_of s f.name (out_of (record_of r) b i.sites) r) (field_type (label_at s f.name) r) q.rule.1 _ a (ap₂ (λ u z. Some (out_of u (make.cut b z) i.sites)) v (sym c)))) in
     record { sites = i.sites; walked = typed_by w (e.Remove' tt (its p x alone) f) s st m (out_of t y i.sites) h q.accepts q.fit; fills = i.fills; numbered = numbered_end i.numbered }
 
 -- ---- what is judged of a form's parts

@@ -3,7 +3,6 @@ use Rattle.std.proofs.lemmas.Slice.Eq.{bytes_eq-Decides}
 use Rattle.std.proofs.Common.{◌≡◌, ◌≢◌, ◌∙◌, refl, sym, ap, ap₂, subst, Bool, true, false, Option, Some, List, [], ◌∷◌, ◌++◌, ℕ, bytes_eq}
 use Rattle.std.specs.Prelude.{◌&&◌, ◌≤◌, not, nat_le, option_map, option_and_then}
 use Rattle.ur_base.specs.declared.refusal.Span.{Span}
-use Rattle.ur_syntax.specs.Kinds.{arrow}
 use Rattle.ur_syntax.specs.declared.kind.Kind.TheVariants as kind
 use Rattle.ur_syntax.specs.declared.con.Con.{Con}
 use Rattle.ur_syntax.specs.declared.con.ConForm.{ConForm, end_of-CField as end, more_of-CField as more}
@@ -90,7 +89,7 @@ step_back w s p left right l acc n k =
 
 -- ---- the function and the row
 
-types_back : (w : World) (s : Scope) (f r : Con) (fn : Normal) (row : List RowPart) → IsWritten w.most s.names.cons f (arrow kind.Row kind.Star) fn → WritesRow w.most s.names.cons r row → IsRow s.env row → row_is_plain row ≡ true → fold_types w s f r ≡ Some (as_function fn, row)
+types_back : (w : World) (s : Scope) (f r : Con) (fn : Normal) (row : List RowPart) → IsWritten w.most s.names.cons f fn → WritesRow w.most s.names.cons r row → IsRow s.env row → row_is_plain row ≡ true → fold_types w s f r ≡ Some (as_function fn, row)
 types_back w s f r fn row kf kr ir pl =
     let gf : Normal = nf s.names.cons f in
     let gr : Normal = nf s.names.cons r in
@@ -121,7 +120,7 @@ abbrev started : World → Scope → ExpForm → NormalType × List RowPart → 
 started w s start t z = option_and_then (folded_at t z) (typed w start s z.1.sites (wants (at_row t.0 [])))
 
 pub fold_walked : (w : World) (d : Statements) (names : Names) (f r : Con) (fn : Normal) (row : List RowPart) (p q a : Span) (start y : ExpForm) (z : Step) (left right : Con) (l : Local) (acc : Param) (start_to step : Exp) →
-    IsWritten w.most names.cons f (arrow kind.Row kind.Star) fn → WritesRow w.most names.cons r row → StepNames z.nm z.t z.rest left right → resolves.IsParam w.most (step_names z names) z.acc l acc →
+    IsWritten w.most names.cons f fn → WritesRow w.most names.cons r row → StepNames z.nm z.t z.rest left right → resolves.IsParam w.most (step_names z names) z.acc l acc →
     Walks w d names start start_to → Walks w d (with_local l (step_names z names)) y step →
     Walks w d names (e.Fold' f tt (its p (e.Lambda' (step_params z left right) tt (its a y alone)) alone) tt (its q start alone) r) (make.folded (as_function fn) acc step start_to row)
 fold_walked w d names f r fn row p q a start y z left right l acc start_to step kf kr kn kp ks ky env m t j st g u =

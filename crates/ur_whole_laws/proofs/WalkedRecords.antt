@@ -77,7 +77,7 @@ fields_found w d names env _ _ _ _ r (one_field {p = p} {f = f} {l = l} {x = x} 
     let s : Scope = scope_at names env in
     let i : IsWalked w d x s st finds b h.0 = kx env finds h.0 (h.4, h.5) st g (starts_left (occurrences b) (field_occurrences out) u) in
     let v : FieldsAreWalked w d n rest s finds i.sites k out h.1 = fields_found w d names env n rest k out h.1 kr h.6 i.sites i.fills (starts_right (occurrences b) (field_occurrences out) u i.numbered) in
-    subst (λ z. FieldsAreWalked w d _ (more_of-Field f p x rest) s finds st _ (more_of-FieldExp l b out) z) (sym h.2) (field_before w d s finds st p f l x b h.0 n rest k out h.1 c.1 h.3 i v)
+    subst (λ z. FieldsAreWalked w d _ (more_of-Field f p x rest) s finds st _ (more_of-FieldExp l b out) z) (sym h.2) (field_before w d s finds st p f l x b h.0 n rest k out h.1 c h.3 i v)
 
 -- a type is wanted of each field that stands in the row
 abbrev EachIsWanted : NormalType → List Part → Type 0
@@ -94,7 +94,7 @@ fields_wanted w d names env u _ _ _ _ r (one_field {p = p} {f = f} {l = l} {x = 
     let i : IsWalked w d x s st (of_field l (wants u)) b h.0 = kx env (of_field l (wants u)) h.0 j st g (starts_left (occurrences b) (field_occurrences out) z) in
     let v : FieldsAreWalked w d n rest s (wants u) i.sites k out h.1 =
     fields_wanted w d names env u n rest k out h.1 kr h.6 (λ l' t' q. each' l' t' (further_in (field l h.0) h.1 (field l' t') q)) i.sites i.fills (starts_right (occurrences b) (field_occurrences out) z i.numbered) in
-    subst (λ q. FieldsAreWalked w d _ (more_of-Field f p x rest) s (wants u) st _ (more_of-FieldExp l b out) q) (sym h.2) (field_before w d s (wants u) st p f l x b h.0 n rest k out h.1 c.1 h.3 i v)
+    subst (λ q. FieldsAreWalked w d _ (more_of-Field f p x rest) s (wants u) st _ (more_of-FieldExp l b out) q) (sym h.2) (field_before w d s (wants u) st p f l x b h.0 n rest k out h.1 c h.3 i v)
 
 -- ---- the whole
 

@@ -1,7 +1,7 @@
 use Rattle.std.specs.Option.{option_copied}
 use Rattle.ur_scopes.proofs.Exits.{refused-exit}
 use Rattle.ur_check.specs.Refused.{by_kind, by_type}
-use Rattle.ur_check.proofs.Ending.{checked, named-cause}
+use Rattle.ur_check.proofs.Ending.{checked, is-source, named-cause}
 use Rattle.ur_check.proofs.whole.check.Goals as goal
 
 pub returns-in_err-check_names-clause-refused : goal.returns-in_err-check_names-clause-refused
@@ -18,7 +18,8 @@ returns-in_err-app-clause-refused c =
     (λ r h. by_type {fields = c.in_ok-fields.fields} c.in_ok-check_names.ensures.told c.in_ok-check_kinds.ensures.kinded (record { occur = c.in_ok-fields.ensures.occur; rise = c.in_ok-fields.ensures.rise }) h)
     c.in_err-app.ensures.refused
 
-pub returns-clause-checked : goal.returns-clause-checked
-returns-clause-checked c =
-    checked c.args.names.now c.in_ok-fields.fields c.args.modules.now (option_copied c.args.signature) c.in_ok-app.app c.in_ok-check_names.ensures.told c.in_ok-check_kinds.ensures.kinded
-    (record { occur = c.in_ok-fields.ensures.occur; rise = c.in_ok-fields.ensures.rise }) c.in_ok-app.ensures.made
+pub returns-clause-source : goal.returns-clause-source
+returns-clause-source c =
+    is-source c.args.names.now c.args.modules.now (option_copied c.args.signature) c.in_ok-app.app c.checked_is_typed.ensures c.requires
+    (checked c.args.names.now c.in_ok-fields.fields c.args.modules.now (option_copied c.args.signature) c.in_ok-app.app c.in_ok-check_names.ensures.told c.in_ok-check_kinds.ensures.kinded
+    (record { occur = c.in_ok-fields.ensures.occur; rise = c.in_ok-fields.ensures.rise }) c.in_ok-app.ensures.made)

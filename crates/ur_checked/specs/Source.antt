@@ -1,4 +1,4 @@
--- A source is the checked one of a project.
+-- A source is the one of a project.
 use Rattle.std.specs.Prelude.{◌≡◌, ◌≢◌, ◌↔◌, ℕ, IsTrue, List, Option, Some, None, Contains, AllPairs}
 use Rattle.ur_syntax.specs.declared.decl.Module.{Module}
 use Rattle.ur_syntax.specs.declared.decl.Signature.{Signature}
@@ -7,9 +7,19 @@ use Rattle.ur_kinded.specs.Faults.{ProjectIsKinded}
 use Rattle.ur_rows.specs.Order.{is_not_after}
 use Rattle.ur_type_words.specs.FieldNames.{of_modules}
 use Rattle.ur_tree.specs.declared.typed.Typed.{Typed}
-use Rattle.ur_typed.specs.Typed.{nothing_declared}
+use Rattle.ur_typed.specs.Typed.{nothing_declared, IsTypedWithin}
 use Rattle.ur_typed.specs.Declaring.{Checked, nothing_yet, project_out}
 use Rattle.ur_checked.specs.Made.{IsMadeOf}
+
+-- The names of the project are in scope and none is given twice where once is allowed, each written constructor has the kind that its
+-- place wants, and `app` is its typed source, no normal form having more than `most` nodes.
+pub record IsSourceWithin (most : ℕ) (names : List (List ℕ)) (modules : List Module) (signature : Option Signature) (app : Typed) : Type 0 where
+  pub named : fault_of names modules signature ≡ None
+  pub kinded : ProjectIsKinded names modules signature
+  pub typed : IsTypedWithin most names modules signature app
+
+abbrev pub IsSource : List (List ℕ) → List Module → Option Signature → Typed → Type 0
+IsSource names modules signature app = (most : ℕ) × IsSourceWithin most names modules signature app
 
 -- the names of fields that occur in the project, by their bytes, each once
 pub record AreFieldNames (modules : List Module) (names : List (List ℕ)) : Type 0 where
@@ -20,8 +30,7 @@ pub record AreFieldNames (modules : List Module) (names : List (List ℕ)) : Typ
 abbrev pub begun : List (List ℕ) → Checked
 begun fields = nothing_yet (nothing_declared fields)
 
--- The project's names are in scope, none is given twice where once is allowed, each written constructor has the kind that its
--- place wants, its declarations, bodies and signature are typed, no normal form having more than `most` nodes, and `app` is put
+-- The same as functions find it: no fault of names, the kinds are right, the declarations, bodies and signature are typed, and `app` is put
 -- together of them.
 pub record IsChecked (most : ℕ) (names : List (List ℕ)) (modules : List Module) (signature : Option Signature) (app : Typed) : Type 0 where
   pub named : fault_of names modules signature ≡ None

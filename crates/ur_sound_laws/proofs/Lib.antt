@@ -1,0 +1,14 @@
+mod Begun
+mod Bodying
+mod Declaring
+mod Ending
+mod Holding
+mod Kinding
+mod Moduling
+mod Routing
+mod Stepping
+mod Tabling
+mod Varying
+mod Walking
+mod Widening
+mod Writing
