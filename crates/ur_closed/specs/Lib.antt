@@ -1,4 +1,5 @@
 pub mod Labels
+pub mod Sizes
 pub mod Reading
 pub mod Lambdas
 pub mod Records

@@ -1,19 +1,23 @@
 //! Constructors under a scope.
-ghost use Rattle.std.specs.Prelude.{◌≡◌, true, map, slice_get, IfOk};
+ghost use Rattle.std.specs.Prelude.{◌≡◌, ◌<◌, true, map, slice_get, IfOk, Err};
 ghost use Rattle.std.specs.Option.{option_copied};
 ghost use Rattle.ur_rows.specs.declared.normal.Normal.TheVariants as normal;
 ghost use Rattle.ur_rows.specs.IsNormal.{is_normal, is_normal_type, is_normal_row};
+ghost use Rattle.ur_rows.specs.Nodes.{most_nodes, nodes};
 ghost use Rattle.ur_rows.specs.Put.{as_label, instance, instance_row, instance_type};
+ghost use Rattle.ur_reduce.specs.declared.count.Halt.TheVariants as halt;
 ghost use Rattle.ur_instances.specs.Arguments.{are_normal};
 ghost use Rattle.ur_source.specs.Items.{text_of};
 ghost use Rattle.ur_closing.specs.Held.{Grows, con_at};
 ghost use Rattle.ur_closing.specs.Scopes.{AreAt, IsAt, cons_of};
 ghost use Rattle.ur_closed.specs.Labels.{text_in, text_of_con};
+ghost use Rattle.ur_closed.specs.Sizes.{SomeLarge};
 
 use std::alloc::Global;
 use ur_base::{List, Memory};
 use ur_closing::{Closing, Scope};
 use ur_instances::{instance, instance_row, instance_type};
+use ur_reduce::Halt;
 use ur_rows::{
     Label, Normal, NormalType, Part, Var, boxed_normal, copy_kind, copy_label, copy_row, copy_type,
     unit,
@@ -144,20 +148,21 @@ pub fn row_under(
     }
 }
 
-/// The number of a constructor under the scope. There is no memory for one that has too many nodes or is too high.
+/// The number of a constructor under the scope. There is no memory for one that is too high.
 fn instance_number(
     alloc: Global,
     closing: &mut Closing<'_>,
     args: &List<Normal>,
     con: &Normal,
-) -> Result<u32, Memory>
+) -> Result<u32, Halt>
     requires { are_normal args.now ≡ true }
     ensures number { IfOk result (λ j. IsAt closing.new.cons j (instance args.now con.now)) }
+    ensures over { result ≡ Err halt.TooLarge → most_nodes < nodes (instance args.now con.now) }
     ensures grows { Grows closing.old closing.new }
 {
     match instance(alloc, args.as_slice(), con) {
-        Ok(made) => closing.add_con(made),
-        Err(_halt) => Err(Memory),
+        Ok(made) => Ok(closing.add_con(made)?),
+        Err(halt) => Err(halt),
     }
 }
 
@@ -167,9 +172,10 @@ fn numbers_of(
     closing: &mut Closing<'_>,
     args: &List<Normal>,
     cons: &List<Normal>,
-) -> Result<List<u32>, Memory>
+) -> Result<List<u32>, Halt>
     requires { are_normal args.now ≡ true }
     ensures made { IfOk result (λ js. AreAt closing.new.cons js (map (instance args.now) cons.now)) }
+    ensures over { result ≡ Err halt.TooLarge → SomeLarge (map (instance args.now) cons.now) }
     ensures grows { Grows closing.old closing.new }
 {
     let all = cons.as_slice();
@@ -179,6 +185,22 @@ fn numbers_of(
         numbers.push(number)?;
     }
     Ok(numbers)
+}
+
+/// The numbers of constructors under the scope, or that one of them has too many nodes. There is no memory for one that is
+/// too high.
+pub fn instances_under(
+    alloc: Global,
+    closing: &mut Closing<'_>,
+    scope: &Scope,
+    cons: &List<Normal>,
+) -> Result<List<u32>, Halt>
+    ensures made { IfOk result (λ js. AreAt closing.new.cons js (map (instance (cons_of closing.old scope.now)) cons.now)) }
+    ensures over { result ≡ Err halt.TooLarge → SomeLarge (map (instance (cons_of closing.old scope.now)) cons.now) }
+    ensures grows { Grows closing.old closing.new }
+{
+    let args = arguments(alloc, closing, scope)?;
+    numbers_of(alloc, closing, &args, cons)
 }
 
 /// The numbers of constructors under the scope. There is no memory for one that has too many nodes or is too high.
@@ -191,6 +213,8 @@ pub fn instances_of(
     ensures made { IfOk result (λ js. AreAt closing.new.cons js (map (instance (cons_of closing.old scope.now)) cons.now)) }
     ensures grows { Grows closing.old closing.new }
 {
-    let args = arguments(alloc, closing, scope)?;
-    numbers_of(alloc, closing, &args, cons)
+    match instances_under(alloc, closing, scope, cons) {
+        Ok(numbers) => Ok(numbers),
+        Err(_halt) => Err(Memory),
+    }
 }

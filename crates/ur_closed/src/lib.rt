@@ -9,7 +9,7 @@ mod records;
 mod statics;
 mod steps;
 
-pub use constructors::closed_label;
+pub use constructors::{closed_label, instances_under};
 pub use reading::{closed_type, name_of, result_type};
 pub use statics::static_of;
 pub use steps::{fold_steps, in_step};

@@ -16,7 +16,7 @@ use Rattle.ur_unfolding.specs.Making.{State, state, list_nodes, AreWithin, Made,
 use Rattle.ur_unfolding.specs.Opening.{Embodies, Lasts}
 use Rattle.ur_unfolding.specs.Working.{Unfolded, Worked, Working, Ends, Steps, AllUnfolded, most_instances, most_nodes, most_levels}
 use Rattle.ur_unfolding.proofs.Going.{lasts_so, lasts_then}
-use Rattle.ur_unfolding.proofs.Working.{work_step, work_done, all_unfolded, work_full, work_deep, is_next, the_same, all_both, all_left, different_left}
+use Rattle.ur_unfolding.proofs.Working.{work_step, work_done, all_unfolded, work_full, work_deep, work_large, is_next, the_same, all_both, all_left, different_left}
 
 -- ---- lists
 
@@ -103,9 +103,9 @@ module _ {I K : Type 0} (p : Language I K) where
         (record { is_instance = h.0; body = g.0.body; is_body = g.0.is_body; nodes = known_one p instances g.0.body a g.0.unfolds }, weighed ks ts h.1 g.1)
 
   -- the bodies that are done and the part of the next one that is known are more than there may be
-  work_large : (IsRoot : K → Type 0) (roots instances rest : List K) (k : K) (bodies : List Term) (w : Worked p IsRoot roots instances bodies) → w.rest ≡ k ∷ rest
+  work_weighs : (IsRoot : K → Type 0) (roots instances rest : List K) (k : K) (bodies : List Term) (w : Worked p IsRoot roots instances bodies) → w.rest ≡ k ∷ rest
       → (body : I) → p.body k ≡ Some body → (room most : ℕ) → list_nodes bodies + room ≡ most → TooMany p (body ∷ []) (state instances room) → HasTooManyNodes p IsRoot most
-  work_large IsRoot roots instances rest k bodies w next body e room most sum t =
+  work_weighs IsRoot roots instances rest k bodies w next body e room most sum t =
       let whole : instances ≡ (w.done ++ k ∷ []) ++ rest =
       w.whole ∙ ap (λ l. w.done ++ l) next ∙ sym (append_assoc w.done (k ∷ []) rest) in
       let done : AllByRecursion (IsInstance p IsRoot) w.done = all_left (IsInstance p IsRoot) w.done w.rest (subst (AllByRecursion (IsInstance p IsRoot)) w.whole w.only) in
@@ -160,17 +160,20 @@ module _ {I K : Type 0} (p : Language I K) where
             within = within_more most_levels bodies (a ∷ []) w.within m.within;
           }
 
-      pub ended : (new : State K) (h : Halt) → Halted p (state instances room) most_levels (body ∷ []) new h → (Different instances → Different new.called) → Ends p roots h
-      ended new halt.Nodes t once =
+      pub ended : (large : K → Type 0) (new : State K) (h : Halt) → Halted p large (state instances room) most_levels (body ∷ []) new h → (Different instances → Different new.called) → Ends p large roots h
+      ended large new halt.Nodes t once =
           let l = left number k count at in
-          work_large (IsNumbered roots) roots instances l.0 k bodies w.work l.1 body e room most_nodes w.nodes t
-      ended new halt.Nesting t once =
+          work_weighs (IsNumbered roots) roots instances l.0 k bodies w.work l.1 body e room most_nodes w.nodes t
+      ended large new halt.Nesting t once =
           let l = left number k count at in
           work_deep p (IsNumbered roots) roots instances l.0 k bodies w.work l.1 body e most_levels t
-      ended new halt.Instances t once =
+      ended large new halt.Instances t once =
           let l = left number k count at in
           work_full p (IsNumbered roots) roots instances l.0 k bodies w.work l.1 body e new.called t (once w.work.different)
-      ended new halt.Memory t once = tt
+      ended large new halt.Large t once =
+          let l = left number k count at in
+          work_large p (IsNumbered roots) roots instances l.0 k bodies w.work l.1 body e large t
+      ended large new halt.Memory t once = tt
 
     pub finished : (number : ℕ) → length bodies ≡ number → number ≤ most_instances → length instances ≤ number → AllUnfolded p roots instances bodies
     finished number count few ends =
@@ -203,16 +206,16 @@ module _ {S P I K : Type 0} (language : S → Language I K) (instances : S → L
     once : sound old → Different (instances old) → Different (instances new)
     once s d = after.once (before.keeps s) (before.once s d)
 
-    pub next_halts : (h : Halt) → ((i : I) → stands mid q i → OneMade (language mid) (state (instances mid) room) most_levels i (state (instances new) rest) (Err h))
-        → (roots : List K) → sound old → Working (language old) roots (instances old) made room → length made ≡ number → number < length (instances old) → Ends (language old) roots h
-    next_halts h one roots s w count below =
+    pub next_halts : (large : K → Type 0) (h : Halt) → ((i : I) → stands mid q i → OneMade (language mid) large (state (instances mid) room) most_levels i (state (instances new) rest) (Err h))
+        → (roots : List K) → sound old → Working (language old) roots (instances old) made room → length made ≡ number → number < length (instances old) → Ends (language old) large roots h
+    next_halts large h one roots s w count below =
         let k = is_there (language old) roots (instances old) made room w number below in
         let body = go k.0 k.1 s in
-        ended (language old) roots (instances old) made room w number k.0 count k.1 body.0 body.1 (state (instances new) rest) h
-        (subst (λ l. Halted (language old) (state l room) most_levels (body.0 ∷ []) (state (instances new) rest) h) numbered
-        (subst (λ p. Halted p (state (instances mid) room) most_levels (body.0 ∷ []) (state (instances new) rest) h) before.same (one body.0 body.2))) (once s)
+        ended (language old) roots (instances old) made room w number k.0 count k.1 body.0 body.1 large (state (instances new) rest) h
+        (subst (λ l. Halted (language old) large (state l room) most_levels (body.0 ∷ []) (state (instances new) rest) h) numbered
+        (subst (λ p. Halted p large (state (instances mid) room) most_levels (body.0 ∷ []) (state (instances new) rest) h) before.same (one body.0 body.2))) (once s)
 
-    pub next_made : (a : Term) → ((i : I) → stands mid q i → OneMade (language mid) (state (instances mid) room) most_levels i (state (instances new) rest) (Ok a))
+    pub next_made : (a : Term) → ((i : I) → stands mid q i → Made (language mid) (state (instances mid) room) most_levels (i ∷ []) (state (instances new) rest) (a ∷ []))
         → (roots : List K) → sound old → Working (language old) roots (instances old) made room → length made ≡ number → number < length (instances old)
         → Working (language old) roots (instances new) (made ++ a ∷ []) rest × (length (made ++ a ∷ []) ≡ suc (length made))
     next_made a one roots s w count below =
@@ -224,16 +227,17 @@ module _ {S P I K : Type 0} (language : S → Language I K) (instances : S → L
           length_last made a,
         )
 
-  pub no_body : (old mid : S) (number room : ℕ) (made : List Term) (h : Halt) → ((k : K) → slice_get (instances old) number ≡ Some k → sound old → Embodies (language old) (stands mid) k (Err h))
-      → (roots : List K) → sound old → Working (language old) roots (instances old) made room → number < length (instances old) → Ends (language old) roots h
-  no_body old mid number room made h go roots s w below =
+  pub no_body : (large : K → Type 0) (old mid : S) (number room : ℕ) (made : List Term) (h : Halt) → ((k : K) → slice_get (instances old) number ≡ Some k → sound old → Embodies (language old) (stands mid) k (Err h))
+      → (roots : List K) → sound old → Working (language old) roots (instances old) made room → number < length (instances old) → Ends (language old) large roots h
+  no_body large old mid number room made h go roots s w below =
       let k = is_there (language old) roots (instances old) made room w number below in
       by h (go k.0 k.1 s)
     where
-      by : (h : Halt) → Embodies (language old) (stands mid) (is_there (language old) roots (instances old) made room w number below).0 (Err h) → Ends (language old) roots h
+      by : (h : Halt) → Embodies (language old) (stands mid) (is_there (language old) roots (instances old) made room w number below).0 (Err h) → Ends (language old) large roots h
       by halt.Nodes g = absurd g
       by halt.Nesting g = absurd g
       by halt.Instances g = absurd g
+      by halt.Large g = absurd g
       by halt.Memory g = tt
 
   -- ---- the loop
@@ -244,7 +248,7 @@ module _ {S P I K : Type 0} (language : S → Language I K) (instances : S → L
   pub along_more : (first mid new : S) (number room rest : ℕ) (made more : List Term) → Along language instances stands sound first mid number made room → number < length (instances mid)
       → Lasts language instances stands sound mid new
       → ((roots : List K) → sound mid → Working (language mid) roots (instances mid) made room → length made ≡ number → number < length (instances mid)
-      → Steps (language mid) roots (instances new) made more rest (Ok tt)) → Along language instances stands sound first new (suc number) more rest
+      → Working (language mid) roots (instances new) more rest × (length more ≡ suc (length made))) → Along language instances stands sound first new (suc number) more rest
   along_more first mid new number room rest made more a below lasts go = record {
     lasts = lasts_then language instances stands sound first mid new a.lasts lasts;
     working = λ s d.
@@ -253,12 +257,12 @@ module _ {S P I K : Type 0} (language : S → Language I K) (instances : S → L
         (subst (λ p. Working p (instances first) (instances new) more rest) a.lasts.same g.0, g.1 ∙ ap suc w.1);
   }
 
-  pub along_ends : (first mid new : S) (number room rest : ℕ) (made more : List Term) (h : Halt) → Along language instances stands sound first mid number made room → number < length (instances mid)
+  pub along_ends : (large : K → Type 0) (first mid new : S) (number room rest : ℕ) (made more : List Term) (h : Halt) → Along language instances stands sound first mid number made room → number < length (instances mid)
       → ((roots : List K) → sound mid → Working (language mid) roots (instances mid) made room → length made ≡ number → number < length (instances mid)
-      → Steps (language mid) roots (instances new) made more rest (Err h)) → sound first → Different (instances first) → Ends (language first) (instances first) h
-  along_ends first mid new number room rest made more h a below go s d =
+      → Steps (language mid) large roots (instances new) made more rest (Err h)) → sound first → Different (instances first) → Ends (language first) large (instances first) h
+  along_ends large first mid new number room rest made more h a below go s d =
       let w = a.working s d in
-      subst (λ p. Ends p (instances first) h) a.lasts.same
+      subst (λ p. Ends p large (instances first) h) a.lasts.same
       (go (instances first) (a.lasts.keeps s) (subst (λ p. Working p (instances first) (instances mid) made room) (sym a.lasts.same) w.0) w.1 below)
 
   pub along_done : (first now : S) (number room : ℕ) (made : List Term) → Along language instances stands sound first now number made room → number ≤ most_instances
@@ -268,7 +272,7 @@ module _ {S P I K : Type 0} (language : S → Language I K) (instances : S → L
       finished (language first) (instances first) (instances now) made room w.0 number w.1 few ends
 
   pub along_full : (first now : S) (number room : ℕ) (made : List Term) → Along language instances stands sound first now number made room → most_instances < length (instances now)
-      → sound first → Different (instances first) → Ends (language first) (instances first) halt.Instances
+      → sound first → Different (instances first) → TooManyInstances (language first) (IsNumbered (instances first)) most_instances
   along_full first now number room made a more s d =
       let w = a.working s d in
       too_many (language first) (instances first) (instances now) made room w.0 more

@@ -10,8 +10,8 @@ use Rattle.ur_meaning.specs.Unfolds as u
 use Rattle.ur_meaning.specs.Instances as n
 use Rattle.ur_meaning.specs.Instances.{Among, Different, IsNumbered, IsInstance, Calls, AreInstances, Nests, TooManyInstances, IsTooDeep}
 use Rattle.ur_meaning.proofs.Parts.{get_longer, unfolds_more, calls_numbered}
-use Rattle.ur_unfolding.specs.Making.{State, state, CalledIn, Grown, Made, Full, TooDeep}
-use Rattle.ur_unfolding.specs.Working.{Unfolded, Worked}
+use Rattle.ur_unfolding.specs.Making.{State, state, CalledIn, Grown, Made, Full, TooDeep, CallsLarge}
+use Rattle.ur_unfolding.specs.Working.{Unfolded, Worked, HasLarge}
 use Rattle.ur_unfolding.proofs.Making.{head_of, tail_of, nothing_in}
 
 -- ---- lists
@@ -162,4 +162,11 @@ module _ {I K : Type 0} (p : Language I K) (IsRoot : K → Type 0) where
       is_body = e;
       nests = only_nests (body ∷ []) body t.item t.depth refl t.among t.nests;
       too_deep = t.deeper;
+    }
+
+    pub work_large : (large : K → Type 0) → CallsLarge p large (body ∷ []) → HasLarge p IsRoot large
+    work_large large t = record {
+      instance = t.instance;
+      is_instance = n.called k t.instance body is_next e (only_calls (body ∷ []) body t.called.item t.instance refl t.called.among t.called.calls);
+      is_large = t.is_large;
     }

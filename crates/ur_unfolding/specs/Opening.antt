@@ -8,7 +8,7 @@ use Rattle.ur_unfolding.specs.declared.head.Opened.{Opened}
 use Rattle.ur_unfolding.specs.declared.halt.Halt.{Halt}
 use Rattle.ur_unfolding.specs.declared.halt.Halt.TheVariants as halt
 use Rattle.ur_unfolding.specs.Heads.{Heads}
-use Rattle.ur_unfolding.specs.Making.{Grown, Full}
+use Rattle.ur_unfolding.specs.Making.{Grown, Full, CallsLarge}
 
 -- The form with its parts, which stand for expressions.
 pub record Formed {P I K : Type 0} (p : Language I K) (stands : P → I → Type 0) (old new : List K) (i : I) (o : Opened P) : Type 0 where
@@ -17,16 +17,17 @@ pub record Formed {P I K : Type 0} (p : Language I K) (stands : P → I → Type
   pub heads : Heads new o.head items (p.form i)
   pub grown : Grown p (i ∷ []) old new
 
--- the numbering is full, or memory is wanted
-abbrev pub Stops : {I K : Type 0} → Language I K → List K → List K → I → Halt → Type 0
-Stops p old new i halt.Nodes = ⊥
-Stops p old new i halt.Nesting = ⊥
-Stops p old new i halt.Instances = Full p (i ∷ []) old new
-Stops p old new i halt.Memory = Unit {0}
+-- the numbering is full, what is called is too large, or memory is wanted
+abbrev pub Stops : {I K : Type 0} → Language I K → (K → Type 0) → List K → List K → I → Halt → Type 0
+Stops p large old new i halt.Nodes = ⊥
+Stops p large old new i halt.Nesting = ⊥
+Stops p large old new i halt.Instances = Full p (i ∷ []) old new
+Stops p large old new i halt.Large = CallsLarge p large (i ∷ [])
+Stops p large old new i halt.Memory = Unit {0}
 
-abbrev pub OpensTo : {P I K : Type 0} → Language I K → (P → I → Type 0) → List K → List K → I → Result (Opened P) Halt → Type 0
-OpensTo p stands old new i (Ok o) = Formed p stands old new i o
-OpensTo p stands old new i (Err h) = Stops p old new i h
+abbrev pub OpensTo : {P I K : Type 0} → Language I K → (K → Type 0) → (P → I → Type 0) → List K → List K → I → Result (Opened P) Halt → Type 0
+OpensTo p large stands old new i (Ok o) = Formed p stands old new i o
+OpensTo p large stands old new i (Err h) = Stops p large old new i h
 
 -- what stands for the body of an instance; only want of memory leaves it out
 abbrev pub Embodies : {P I K : Type 0} → Language I K → (P → I → Type 0) → K → Result P Halt → Type 0
@@ -48,9 +49,9 @@ pub record Shown {P I K : Type 0} (p : Language I K) (stands : P → I → Type 
   pub heads : Heads new o.head items (p.form item)
   pub grown : Grown p (i ∷ []) old new
 
-abbrev pub ShowsIt : {P I K : Type 0} → Language I K → (P → I → Type 0) → List K → List K → I → Result (Opened P) Halt → Type 0
-ShowsIt p stands old new i (Ok o) = Shown p stands old new i o × (o.head ≢ head.Same)
-ShowsIt p stands old new i (Err h) = Stops p old new i h
+abbrev pub ShowsIt : {P I K : Type 0} → Language I K → (K → Type 0) → (P → I → Type 0) → List K → List K → I → Result (Opened P) Halt → Type 0
+ShowsIt p large stands old new i (Ok o) = Shown p stands old new i o × (o.head ≢ head.Same)
+ShowsIt p large stands old new i (Err h) = Stops p large old new i h
 
 -- The language stays, what stands for an expression does so on, and a sound table stays sound, its instances being each there once.
 pub record Lasts {S P I K : Type 0} (language : S → Language I K) (instances : S → List K) (stands : S → P → I → Type 0) (sound : S → Type 0) (old new : S) : Type 0 where

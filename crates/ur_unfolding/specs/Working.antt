@@ -42,17 +42,24 @@ pub record Working {I K : Type 0} (p : Language I K) (roots instances : List K) 
   pub nodes : list_nodes bodies + room ≡ most_nodes
   pub within : AreWithin most_levels bodies
 
--- There are too many instances, their bodies have too many nodes together, or one nests too deep.
-abbrev pub Ends : {I K : Type 0} → Language I K → List K → Halt → Type 0
-Ends p roots halt.Nodes = HasTooManyNodes p (IsNumbered roots) most_nodes
-Ends p roots halt.Nesting = IsTooDeep p (IsNumbered roots) most_levels
-Ends p roots halt.Instances = TooManyInstances p (IsNumbered roots) most_instances
-Ends p roots halt.Memory = Unit {0}
+-- an instance is too large by itself
+pub record HasLarge {I K : Type 0} (p : Language I K) (IsRoot : K → Type 0) (large : K → Type 0) : Type 0 where
+  pub instance : K
+  pub is_instance : IsInstance p IsRoot instance
+  pub is_large : large instance
+
+-- There are too many instances, their bodies have too many nodes together, one nests too deep, or an instance is too large.
+abbrev pub Ends : {I K : Type 0} → Language I K → (K → Type 0) → List K → Halt → Type 0
+Ends p large roots halt.Nodes = HasTooManyNodes p (IsNumbered roots) most_nodes
+Ends p large roots halt.Nesting = IsTooDeep p (IsNumbered roots) most_levels
+Ends p large roots halt.Instances = TooManyInstances p (IsNumbered roots) most_instances
+Ends p large roots halt.Large = HasLarge p (IsNumbered roots) large
+Ends p large roots halt.Memory = Unit {0}
 
 -- one body more is unfolded, or there is a reason that not all are
-abbrev pub Steps : {I K : Type 0} → Language I K → (roots instances : List K) → (old new : List Term) → ℕ → Result (Unit {0}) Halt → Type 0
-Steps p roots instances old new room (Ok done) = Working p roots instances new room × (length new ≡ suc (length old))
-Steps p roots instances old new room (Err h) = Ends p roots h
+abbrev pub Steps : {I K : Type 0} → Language I K → (K → Type 0) → (roots instances : List K) → (old new : List Term) → ℕ → Result (Unit {0}) Halt → Type 0
+Steps p large roots instances old new room (Ok done) = Working p roots instances new room × (length new ≡ suc (length old))
+Steps p large roots instances old new room (Err h) = Ends p large roots h
 
 -- The instances are all that there are, each once, and these are their bodies; no limit is exceeded.
 pub record AllUnfolded {I K : Type 0} (p : Language I K) (roots instances : List K) (bodies : List Term) : Type 0 where
@@ -64,6 +71,6 @@ pub record AllUnfolded {I K : Type 0} (p : Language I K) (roots instances : List
   pub nodes : list_nodes bodies ≤ most_nodes
   pub within : AreWithin most_levels bodies
 
-abbrev pub AreUnfolded : {I K : Type 0} → Language I K → (roots instances : List K) → Result (List Term) Halt → Type 0
-AreUnfolded p roots instances (Ok bodies) = AllUnfolded p roots instances bodies
-AreUnfolded p roots instances (Err h) = Ends p roots h
+abbrev pub AreUnfolded : {I K : Type 0} → Language I K → (K → Type 0) → (roots instances : List K) → Result (List Term) Halt → Type 0
+AreUnfolded p large roots instances (Ok bodies) = AllUnfolded p roots instances bodies
+AreUnfolded p large roots instances (Err h) = Ends p large roots h

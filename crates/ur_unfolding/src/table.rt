@@ -24,12 +24,15 @@ pub trait Table {
 
     ghost stands: { Self → Self.Piece → Item → Type 0 };
 
+    /// Which instances are too large to be unfolded.
+    ghost large: { Instance → Type 0 };
+
     /// What holds of a table whose instances are told apart. A piece may stand for an expression in such a table alone.
     ghost sound: { Self → Type 0 };
 
     /// The form of an expression. What it calls is numbered.
     fn form(&mut self, alloc: Global, piece: &Self::Piece) -> Result<Opened<Self::Piece>, Halt>
-        ensures form { (i : Item) → stands self.old piece.now i → OpensTo (language self.old) (stands self.new) (instances self.old) (instances self.new) i result }
+        ensures form { (i : Item) → stands self.old piece.now i → OpensTo (language self.old) large (stands self.new) (instances self.old) (instances self.new) i result }
         ensures lasts { Lasts language instances stands sound self.old self.new };
 
     /// What the body of the instance with this number is.

@@ -1,4 +1,5 @@
-use Rattle.ur_closed.proofs.Numbered.{numbered_from, numbered_more, numbered_end}
+use Rattle.std.proofs.Common.{Err, ap}
+use Rattle.ur_closed.proofs.Numbered.{numbered_from, numbered_more, numbered_end, one_large, over_exit}
 use Rattle.ur_closed.proofs.constructors.numbers_of.Goals as goal
 
 pub loop-i-init : goal.loop-i-init
@@ -11,3 +12,8 @@ loop-i-preserved c =
 
 pub returns-clause-made : goal.returns-clause-made
 returns-clause-made c = numbered_end c.args.closing.now c.loop-i.closing c.args.args.now c.args.cons.now c.as_slice-all.result.now c.loop-i.i c.loop-i.numbers c.as_slice-all.ensures c.loop-i-test.false c.loop-i.invariant
+
+pub returns-in_err-number-clause-over : goal.returns-in_err-number-clause-over
+returns-in_err-number-clause-over c =
+    over_exit c.from_residual.result c.in_err-number.field-0.0 c.from_residual.ensures.1
+    (λ e. one_large c.args.args.now c.args.cons.now c.as_slice-all.result.now c.loop-i.i c.index-all-i.result c.as_slice-all.ensures c.loop-i-test.true c.index-all-i.is (c.in_err-number.ensures.over (ap Err e)))

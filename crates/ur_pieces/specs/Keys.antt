@@ -1,0 +1,44 @@
+-- Instances by number, in a list that grows.
+use Rattle.std.specs.Prelude.{◌≡◌, ◌≤◌, ℕ, List, [], ◌∷◌, ◌++◌, length, map, Some, slice_get, Result, Ok, Err}
+use Rattle.std.specs.List.{AllByRecursion}
+use Rattle.ur_tree.specs.declared.closed.Instance.{Instance}
+use Rattle.ur_meaning.specs.Instances.{IsNumbered}
+use Rattle.ur_unfolding.specs.declared.halt.Halt.{Halt}
+use Rattle.ur_unfolding.specs.declared.halt.Halt.TheVariants as halt
+use Rattle.ur_closing.specs.Held.{Held, con_at, static_at, AreBelow}
+use Rattle.ur_pieces.specs.declared.opening.Key.{Key}
+
+-- the instance that the numbers of a key stand for
+abbrev pub instance_of : Held → Key → Instance
+instance_of held key = record { function = key.function; cons = map (con_at held.cons) key.cons; fixed = map (static_at held.statics) key.fixed }
+
+-- the numbers of a key stand for something
+abbrev pub KeyFits : Held → Key → Type 0
+KeyFits held key = AreBelow (length held.cons) key.cons × AreBelow (length held.statics) key.fixed
+
+abbrev pub KeysFit : Held → List Key → Type 0
+KeysFit held = AllByRecursion (KeyFits held)
+
+-- nothing is added, or last what was not there
+pub data IsAdded {K : Type 0} (k : K) (old new : List K) : Type 0 where
+  nothing : new ≡ old → IsAdded k old new
+  last : new ≡ old ++ k ∷ [] → ¬ (IsNumbered old k) → IsAdded k old new
+
+-- The number of what is there, or was added last; only where 4,096 are there is there none for what is new.
+abbrev pub Numbers : {K : Type 0} → List K → List K → K → Result ℕ Halt → Type 0
+Numbers old new k (Ok j) = (slice_get new j ≡ Some k) × IsAdded k old new
+Numbers old new k (Err halt.Nodes) = ⊥
+Numbers old new k (Err halt.Nesting) = ⊥
+Numbers old new k (Err halt.Instances) = (new ≡ old) × (4096 ≤ length old) × ¬ (IsNumbered old k)
+Numbers old new k (Err halt.Large) = ⊥
+Numbers old new k (Err halt.Memory) = new ≡ old
+
+-- it is added last
+abbrev pub Added : {A : Type 0} → List A → List A → A → Result ℕ Halt → Type 0
+Added old new x (Ok j) = (j ≡ length old) × (new ≡ old ++ x ∷ [])
+Added old new x (Err e) = (e ≡ halt.Memory) × (new ≡ old)
+
+-- this value, or want of memory
+abbrev pub Gives : {A : Type 0} → (A → Type 0) → Result A Halt → Type 0
+Gives P (Ok x) = P x
+Gives P (Err e) = e ≡ halt.Memory
