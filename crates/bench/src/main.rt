@@ -4,13 +4,16 @@
 
 mod answers;
 mod changes;
+mod checking;
 mod congruence;
 mod keeper;
 mod pieces;
+mod projects;
 mod runs;
 
 ghost use Rattle.std.specs.Prelude.{◌≤◌, IfOk};
 
+use projects::{Project, project_of};
 use std::alloc::Global;
 use std::process::ExitCode;
 use std::{env, io};
@@ -81,6 +84,11 @@ fn bench(rt: &HostRuntime) -> Result<(), BenchEnd> {
             request(rt, parts)
         }
         "pipelined" => pipelined(rt, words.next()),
+        "check" => {
+            let project = project_named(words.next())?;
+            let size = size(words.next(), checking::MOST)?;
+            checked(rt, project, size)
+        }
         "nested" => {
             let levels = size(words.next(), runs::MOST_LEVELS)?;
             let times = size(words.next(), runs::MOST_TIMES)?;
@@ -161,6 +169,28 @@ fn pipelined(rt: &HostRuntime, word: Option<String>) -> Result<(), BenchEnd> {
     let requests = size(word, pieces::MOST)?;
     let cut = pieces::cut_pipelined(rt.alloc(), requests)?;
     println!(rt; "pipelined {cut}")?;
+    Ok(())
+}
+
+/// The project that a word names.
+fn project_named(word: Option<String>) -> Result<Project, BenchEnd> {
+    let Some(word) = word else {
+        return Err(BenchEnd::Usage);
+    };
+    match project_of(word.as_str()) {
+        Some(project) => Ok(project),
+        None => Err(BenchEnd::Usage),
+    }
+}
+
+fn checked(rt: &HostRuntime, project: Project, size: u32) -> Result<(), BenchEnd> {
+    let Some(counts) = checking::check_all(rt.alloc(), project, size)? else {
+        return Err(BenchEnd::Usage);
+    };
+    println!(rt;
+        "check {} bytes {} functions",
+        counts.bytes, counts.functions
+    )?;
     Ok(())
 }
 
