@@ -1,0 +1,17 @@
+pub mod Forms
+pub mod Telling
+pub mod Placing
+pub mod Forming
+pub mod Fragments
+pub mod Stepping
+pub mod Folding
+pub mod Formed
+pub mod Shaped
+pub mod Called
+pub mod Recorded
+pub mod Computing
+pub mod Applies
+pub mod Calling
+pub mod Constant
+pub mod Tabled
+pub mod Naming
