@@ -1,13 +1,11 @@
 -- What is applied.
-use Rattle.std.proofs.Common.{◌≡◌, ℕ, ℤ, Bool, true, false, List, [], ◌∷◌, ◌++◌, map, length, get_or, Option, None, Some, option_map, Result, Ok, Err, refl, sym, ap, ap₂, subst, ◌∙◌}
-use Rattle.std.specs.Prelude.{slice_get}
+use Rattle.std.proofs.Common.{◌≡◌, ℕ, ℤ, Bool, true, false, List, [], ◌∷◌, ◌++◌, map, get_or, Option, None, Some, refl, sym, ap, ap₂, subst, ◌∙◌}
 use Rattle.std.proofs.lemmas.Option.{slice_get-get_or}
 use Rattle.ur_rows.specs.declared.normal.Normal.TheVariants as normal
 use Rattle.ur_rows.specs.Made.{unit}
 use Rattle.ur_values.specs.declared.value.Value.TheVariants as v
 use Rattle.ur_tree.specs.declared.exp.Exp.{Exp}
 use Rattle.ur_tree.specs.declared.exp.Exp.TheVariants as x
-use Rattle.ur_tree.specs.declared.exp.Param.{Param}
 use Rattle.ur_tree.specs.declared.closed.Static.{Static, Static-F, out-Static}
 use Rattle.ur_tree.specs.declared.closed.Static.TheOpen as o
 use Rattle.ur_tree.specs.declared.closed.Static.TheVariants as st

@@ -1,5 +1,5 @@
 -- The forms of calls and of applied lambdas.
-use Rattle.std.proofs.Common.{◌≡◌, ◌<◌, ◌≤◌, ℕ, zero, suc, ◌+◌, Bool, true, false, List, [], ◌∷◌, ◌++◌, map, length, drop, take, get_or, Option, None, Some, option_map, Result, Ok, Err, refl, sym, ap, ap₂, subst, ◌∙◌, arith, append_assoc, append-nil, drop-cons, add-one}
+use Rattle.std.proofs.Common.{◌≡◌, ◌<◌, ◌≤◌, ℕ, zero, suc, ◌+◌, Bool, true, false, List, [], ◌∷◌, ◌++◌, map, length, drop, get_or, Option, None, Some, option_map, Result, Ok, Err, refl, sym, ap, ap₂, subst, ◌∙◌, arith, append_assoc, append-nil, drop-cons, add-one}
 use Rattle.std.specs.Prelude.{slice_get}
 use Rattle.std.specs.List.{AllZip}
 use Rattle.std.proofs.lemmas.Bool.{false≢true}
@@ -21,13 +21,12 @@ use Rattle.ur_unfolding.specs.declared.halt.Halt.{Halt}
 use Rattle.ur_unfolding.specs.declared.halt.Halt.TheVariants as halt
 use Rattle.ur_unfolding.specs.Heads as heads
 use Rattle.ur_closing.specs.Held.{Held, Grows}
-use Rattle.ur_closing.specs.Scopes.{Statics, IsAt, AreAt, MayBeAt}
+use Rattle.ur_closing.specs.Scopes.{Statics, AreAt}
 use Rattle.ur_closing.proofs.Standing.{cons_are, statics_are, are_more, statics_grown}
 use Rattle.ur_pieces.specs.declared.piece.Piece.{Piece}
 use Rattle.ur_pieces.specs.declared.opening.Opening.{Opening}
-use Rattle.ur_pieces.specs.declared.opening.Key.{Key}
 use Rattle.ur_pieces.specs.Told.{Told, exp, told, exps_told}
-use Rattle.ur_pieces.specs.Keys.{instance_of, IsAdded, Numbers}
+use Rattle.ur_pieces.specs.Keys.{instance_of, IsOf, IsAdded, Numbers}
 use Rattle.ur_pieces.specs.Standing.{SaysFor, IsWhole, instances_in}
 use Rattle.ur_pieces.specs.Moving.{Widens, Stays}
 use Rattle.ur_pieces.specs.Forming.{FormedAs}
@@ -97,7 +96,7 @@ module _ (old mid new : Opening) (st : Stays old mid) (w : Widens mid new) (whol
   added_old : IsAdded k (instances_in mid) (instances_in new) → IsAdded k (instances_in old) (instances_in new)
   added_old = subst (λ l. IsAdded k l (instances_in new)) (instances_stay old mid st whole)
 
-  pub called_formed : (ts : List Told) (items : List Item) → AllZip (SaysFor new) ts items → (j : ℕ) (r : Result (Opened Piece) Halt) → Numbers (instances_in mid) (instances_in new) k (Ok j) → IsOpened (head.Call j) ts r
+  pub called_formed : (ts : List Told) (items : List Item) → AllZip (SaysFor new) ts items → (j : ℕ) (r : Result (Opened Piece) Halt) → Numbers IsOf (instances_in mid) (instances_in new) k (Ok j) → IsOpened (head.Call j) ts r
       → FormedAs old new (call_form k items) r
   called_formed ts items says j (Ok o) numbers is = record {
     items = items;
@@ -107,15 +106,16 @@ module _ (old mid new : Opening) (st : Stays old mid) (w : Widens mid new) (whol
   }
   called_formed ts items says j (Err e) numbers is = no_memory old new (call_form k items) e is
 
-  pub call_stops : (items : List Item) (e : Halt) → Numbers (instances_in mid) (instances_in new) k (Err e) → FormedAs old new (call_form k items) (Err e)
+  pub call_stops : (items : List Item) (e : Halt) → Numbers IsOf (instances_in mid) (instances_in new) k (Err e) → FormedAs old new (call_form k items) (Err e)
   call_stops items halt.Nodes n = absurd n
   call_stops items halt.Nesting n = absurd n
-  call_stops items halt.Instances n = record {
+  call_stops items (halt.Instances function) n = record {
     same = n.0 ∙ instances_stay old mid st whole;
     full = subst (λ l. 4096 ≤ length l) (sym n.0) n.1;
     called = k;
     is_called = refl;
     unnumbered = subst (λ l. ¬ (IsNumbered l k)) (sym n.0) n.2;
+    is_of = n.3;
   }
   call_stops items halt.Large n = absurd n
   call_stops items halt.Memory n = tt

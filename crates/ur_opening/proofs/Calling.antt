@@ -1,7 +1,6 @@
 -- The forms of calls by what is found.
-use Rattle.std.proofs.Common.{◌≡◌, ℕ, List, [], ◌∷◌, ◌++◌, map, Option, None, Some, Result, Ok, Err, refl, sym, ap, ap₂, subst, ◌∙◌}
+use Rattle.std.proofs.Common.{◌≡◌, ℕ, List, [], ◌∷◌, ◌++◌, map, Option, None, Some, Result, Ok, Err, refl, sym, ap, subst, ◌∙◌}
 use Rattle.std.specs.Prelude.{slice_get}
-use Rattle.std.specs.List.{AllZip}
 use Rattle.ur_tree.specs.declared.exp.Exp.{Exp}
 use Rattle.ur_tree.specs.declared.exp.Exp.TheVariants as x
 use Rattle.ur_tree.specs.declared.exp.Param.{Param}
@@ -9,7 +8,6 @@ use Rattle.ur_tree.specs.declared.typed.Function.{Function}
 use Rattle.ur_tree.specs.declared.typed.Typed.{Typed}
 use Rattle.ur_tree.specs.declared.closed.Static.{Static, out-Static}
 use Rattle.ur_tree.specs.declared.closed.Static.TheVariants as st
-use Rattle.ur_tree.specs.declared.closed.Instance.{Instance}
 use Rattle.ur_meaning.specs.Form.{call_form, let_form, no_form}
 use Rattle.ur_source.specs.Reading.{Cons}
 use Rattle.ur_source.specs.Items as i
@@ -25,20 +23,19 @@ use Rattle.ur_closing.specs.Scopes.{Statics, IsAt, AreAt, MayBeAt, Stands}
 use Rattle.ur_closing.proofs.Standing.{are_more, cons_grown}
 use Rattle.ur_pieces.specs.declared.piece.Piece.{Piece}
 use Rattle.ur_pieces.specs.declared.opening.Opening.{Opening}
-use Rattle.ur_pieces.specs.declared.opening.Key.{Key}
-use Rattle.ur_pieces.specs.Told.{Told, exp, told, exps_told}
+use Rattle.ur_pieces.specs.Told.{exp, told, exps_told}
 use Rattle.ur_pieces.specs.Keys as keys
 use Rattle.ur_pieces.specs.Keys.{instance_of, Added, Gives}
-use Rattle.ur_pieces.specs.Standing.{ScopeIs, SaysFor, IsWhole, instances_in}
+use Rattle.ur_pieces.specs.Standing.{ScopeIs, IsWhole, instances_in}
 use Rattle.ur_pieces.specs.Moving.{Widens, Stays}
-use Rattle.ur_pieces.specs.Forming.{FormedAs, OpensExp}
+use Rattle.ur_pieces.specs.Forming.{FormedAs}
 use Rattle.ur_pieces.proofs.Staying.{instances_stay, scope_stays, whole_stays, stays_so, stays_then}
 use Rattle.ur_pieces.proofs.Scoped.{added_at}
 use Rattle.ur_opening.specs.Opened.{IsOpened}
 use Rattle.ur_opening.specs.Applying.{AreMayBeAt}
 use Rattle.ur_opening.proofs.Forms.{form-Apply}
-use Rattle.ur_opening.proofs.Telling.{exps_say, both_say, told_zip}
-use Rattle.ur_opening.proofs.Forming.{opened_formed, none_formed, no_memory, formed_after}
+use Rattle.ur_opening.proofs.Telling.{exps_say, both_say}
+use Rattle.ur_opening.proofs.Forming.{opened_formed, formed_after}
 use Rattle.ur_opening.proofs.Called.{constant-known, call-unknown, call-dynamic, call-static, lambda-dynamic, lambda-static, instance_is, called_formed, call_stops}
 
 -- ---- a named function
@@ -67,19 +64,19 @@ module _ (old : Opening) (n : ℕ) (scope : Scope) (at : ScopeIs old n scope) (w
       call_is : call ≡ call_form (record { function = k; cons = cs; fixed = are_there.0 }) (exps scope (value_args function.params args))
       call_is = call-static (source_of old.typed.now) scope args k cs function are_there.0 known are_there.2
 
-      pub numbered_formed : (j : ℕ) (o : Opened Piece) → (IsWhole mid → keys.Numbers (instances_in mid) (instances_in new) (instance_of mid.closing (record { function = k; cons = js; fixed = fixed })) (Ok j)) → o.head ≡ head.Call j
+      pub numbered_formed : (j : ℕ) (o : Opened Piece) → (IsWhole mid → keys.Numbers keys.IsOf (instances_in mid) (instances_in new) (instance_of mid.closing (record { function = k; cons = js; fixed = fixed })) (Ok j)) → o.head ≡ head.Call j
           → map told o.parts ≡ exps_told n (value_args function.params args) → FormedAs old new call (Ok o)
       numbered_formed j o numbers h ps =
           subst (λ form. FormedAs old new form (Ok o)) (sym call_is)
           (called_formed old mid new st w whole (record { function = k; cons = cs; fixed = are_there.0 }) (exps_told n (value_args function.params args)) (exps scope (value_args function.params args))
           (exps_say new n scope (scope_stays mid new w n scope (scope_stays old mid st.widens n scope at)) (value_args function.params args)) j (Ok o)
-          (subst (λ i. keys.Numbers (instances_in mid) (instances_in new) i (Ok j)) key_is (numbers (whole_stays old mid st whole))) (h, ps))
+          (subst (λ i. keys.Numbers keys.IsOf (instances_in mid) (instances_in new) i (Ok j)) key_is (numbers (whole_stays old mid st whole))) (h, ps))
 
-      pub unnumbered_formed : (e : Halt) → (IsWhole mid → keys.Numbers (instances_in mid) (instances_in new) (instance_of mid.closing (record { function = k; cons = js; fixed = fixed })) (Err e)) → FormedAs old new call (Err e)
+      pub unnumbered_formed : (e : Halt) → (IsWhole mid → keys.Numbers keys.IsOf (instances_in mid) (instances_in new) (instance_of mid.closing (record { function = k; cons = js; fixed = fixed })) (Err e)) → FormedAs old new call (Err e)
       unnumbered_formed e numbers =
           subst (λ form. FormedAs old new form (Err e)) (sym call_is)
           (call_stops old mid new st w whole (record { function = k; cons = cs; fixed = are_there.0 }) (exps scope (value_args function.params args)) e
-          (subst (λ i. keys.Numbers (instances_in mid) (instances_in new) i (Err e)) key_is (numbers (whole_stays old mid st whole))))
+          (subst (λ i. keys.Numbers keys.IsOf (instances_in mid) (instances_in new) i (Err e)) key_is (numbers (whole_stays old mid st whole))))
 
 -- ---- a function as a value
 
@@ -95,17 +92,17 @@ module _ (old new : Opening) (k : ℕ) (js : List ℕ) (cs : Cons) (are : AreAt 
   constant_key : instance_of old.closing (record { function = k; cons = js; fixed = fixed }) ≡ record { function = k; cons = cs; fixed = [] }
   constant_key = instance_is old.closing k js fixed cs [] are (subst (λ (l : List ℕ). AreAt old.closing.statics l []) (sym empty) tt)
 
-  pub constant_called : (j : ℕ) (r : Result (Opened Piece) Halt) → (IsWhole old → keys.Numbers (instances_in old) (instances_in new) (instance_of old.closing (record { function = k; cons = js; fixed = fixed })) (Ok j))
+  pub constant_called : (j : ℕ) (r : Result (Opened Piece) Halt) → (IsWhole old → keys.Numbers keys.IsOf (instances_in old) (instances_in new) (instance_of old.closing (record { function = k; cons = js; fixed = fixed })) (Ok j))
       → IsOpened (head.Call j) [] r → FormedAs old new (closed_form old.typed.now.functions (out-Static (st.Function k cs))) r
   constant_called j r numbers is =
       subst (λ form. FormedAs old new form r) (sym constant_is)
-      (called_formed old old new (stays_so old) w whole (record { function = k; cons = cs; fixed = [] }) [] [] tt j r (subst (λ i. keys.Numbers (instances_in old) (instances_in new) i (Ok j)) constant_key (numbers whole)) is)
+      (called_formed old old new (stays_so old) w whole (record { function = k; cons = cs; fixed = [] }) [] [] tt j r (subst (λ i. keys.Numbers keys.IsOf (instances_in old) (instances_in new) i (Ok j)) constant_key (numbers whole)) is)
 
-  pub constant_stops : (e : Halt) → (IsWhole old → keys.Numbers (instances_in old) (instances_in new) (instance_of old.closing (record { function = k; cons = js; fixed = fixed })) (Err e))
+  pub constant_stops : (e : Halt) → (IsWhole old → keys.Numbers keys.IsOf (instances_in old) (instances_in new) (instance_of old.closing (record { function = k; cons = js; fixed = fixed })) (Err e))
       → FormedAs old new (closed_form old.typed.now.functions (out-Static (st.Function k cs))) (Err e)
   constant_stops e numbers =
       subst (λ form. FormedAs old new form (Err e)) (sym constant_is)
-      (call_stops old old new (stays_so old) w whole (record { function = k; cons = cs; fixed = [] }) [] e (subst (λ i. keys.Numbers (instances_in old) (instances_in new) i (Err e)) constant_key (numbers whole)))
+      (call_stops old old new (stays_so old) w whole (record { function = k; cons = cs; fixed = [] }) [] e (subst (λ i. keys.Numbers keys.IsOf (instances_in old) (instances_in new) i (Err e)) constant_key (numbers whole)))
 
 -- ---- a lambda
 

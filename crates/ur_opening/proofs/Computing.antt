@@ -1,5 +1,5 @@
 -- What is computed statically.
-use Rattle.std.proofs.Common.{◌≡◌, ℕ, Bool, true, false, ◌||◌, Option, None, Result, refl, sym, ap, ap₂, subst, ◌∙◌}
+use Rattle.std.proofs.Common.{◌≡◌, ℕ, Bool, true, false, Option, None, Result, refl, sym, ap, ap₂, subst, ◌∙◌}
 use Rattle.ur_tree.specs.declared.typed.Typed.{Typed}
 use Rattle.ur_tree.specs.declared.exp.Exp.{Exp}
 use Rattle.ur_tree.specs.declared.closed.Static.{Static}
@@ -11,7 +11,7 @@ use Rattle.ur_unfolding.specs.declared.head.Opened.{Opened}
 use Rattle.ur_unfolding.specs.declared.halt.Halt.{Halt}
 use Rattle.ur_pieces.specs.declared.piece.Piece.{Piece}
 use Rattle.ur_pieces.specs.declared.opening.Opening.{Opening}
-use Rattle.ur_pieces.specs.Standing.{ScopeIs, IsWhole, instances_in}
+use Rattle.ur_pieces.specs.Standing.{ScopeIs, IsWhole}
 use Rattle.ur_pieces.specs.Moving.{Stays}
 use Rattle.ur_pieces.specs.Forming.{FormedAs, OpensExp}
 use Rattle.ur_pieces.proofs.Staying.{instances_stay, scope_stays, whole_stays}

@@ -1,9 +1,7 @@
 -- The forms of closed static expressions.
-use Rattle.std.proofs.Common.{◌≡◌, ◌<◌, ℕ, ℤ, Bool, List, [], ◌∷◌, ◌++◌, map, length, get_or, None, Some, Result, refl, sym, ap, ap₂, subst, ◌∙◌}
-use Rattle.std.specs.Prelude.{slice_get}
+use Rattle.std.proofs.Common.{◌≡◌, ℕ, ℤ, Bool, List, [], ◌∷◌, map, length, get_or, Result, refl, sym, ap, subst, ◌∙◌}
 use Rattle.std.specs.List.{AllZip}
 use Rattle.std.proofs.lemmas.Option.{slice_get-get_or}
-use Rattle.ur_base.specs.declared.names.Name.{Name}
 use Rattle.ur_values.specs.declared.value.Value.TheVariants as v
 use Rattle.ur_terms.specs.declared.term.Op.TheVariants as op
 use Rattle.ur_tree.specs.declared.exp.Exp.TheVariants as x
@@ -14,8 +12,7 @@ use Rattle.ur_tree.specs.declared.closed.StaticField.{StaticField}
 use Rattle.ur_meaning.specs.Form.{int_form, text_form, bool_form, strict_form, no_form}
 use Rattle.ur_source.specs.Static.{static_record}
 use Rattle.ur_source.specs.Items as i
-use Rattle.ur_source.specs.Items.{Item, ItemForm, form_of, closed_form}
-use Rattle.ur_source.specs.Source.{source_of}
+use Rattle.ur_source.specs.Items.{Item, ItemForm, closed_form}
 use Rattle.ur_unfolding.specs.declared.head.Opened.{Opened}
 use Rattle.ur_unfolding.specs.declared.halt.Halt.{Halt}
 use Rattle.ur_closing.specs.declared.node.Field.{Field}
@@ -25,7 +22,7 @@ use Rattle.ur_closing.specs.Held.{Held, con_at, static_at, field_of, lambda_with
 use Rattle.ur_closing.specs.Scopes.{IsAt}
 use Rattle.ur_pieces.specs.declared.piece.Piece.{Piece}
 use Rattle.ur_pieces.specs.declared.opening.Opening.{Opening}
-use Rattle.ur_pieces.specs.Told.{Told, closed}
+use Rattle.ur_pieces.specs.Told.{closed}
 use Rattle.ur_pieces.specs.Standing.{SaysFor, IsWhole}
 use Rattle.ur_pieces.specs.Forming.{FormedAs, OpensItem}
 use Rattle.ur_pieces.proofs.Lists.{the_same}

@@ -1,5 +1,5 @@
 -- Folds as they are opened.
-use Rattle.std.proofs.Common.{◌≡◌, ◌≤◌, ℕ, suc, List, [], ◌∷◌, ◌++◌, length, take, reverse, map, Option, None, Some, Result, Ok, Err, refl, sym, ap, subst, ◌∙◌, append-nil, arith}
+use Rattle.std.proofs.Common.{◌≡◌, ℕ, suc, List, [], ◌∷◌, length, reverse, Option, None, Some, Result, Ok, Err, refl, sym, ap, subst, ◌∙◌, append-nil, arith}
 use Rattle.std.specs.Prelude.{slice_get, option_and_then}
 use Rattle.std.specs.List.{AllZip}
 use Rattle.std.proofs.lemmas.List.{take_all}
@@ -11,7 +11,7 @@ use Rattle.ur_tree.specs.declared.exp.Param.{Param}
 use Rattle.ur_meaning.specs.Form.{same_form, let_form}
 use Rattle.ur_source.specs.Reading.{Cons, fold_steps}
 use Rattle.ur_source.specs.Items as i
-use Rattle.ur_source.specs.Items.{Source, Scope, ItemForm, form_of, form_with, in_step, static_in, fold_form}
+use Rattle.ur_source.specs.Items.{Source, Scope, ItemForm, form_of, form_with, in_step, static_in}
 use Rattle.ur_source.specs.Source.{source_of}
 use Rattle.ur_closing.specs.declared.node.Step.{Step}
 use Rattle.ur_closing.specs.Held.{Grows}
@@ -26,9 +26,9 @@ use Rattle.ur_pieces.specs.declared.piece.Piece.{Piece}
 use Rattle.ur_pieces.specs.declared.opening.Opening.{Opening}
 use Rattle.ur_pieces.specs.Told.{exp, closed, folding}
 use Rattle.ur_pieces.specs.Keys.{Added}
-use Rattle.ur_pieces.specs.Standing.{ScopeIs, StepsLeft, IsWhole, instances_in}
+use Rattle.ur_pieces.specs.Standing.{ScopeIs, StepsLeft, IsWhole}
 use Rattle.ur_pieces.specs.Moving.{Stays}
-use Rattle.ur_pieces.specs.Forming.{FormedAs, OpensItem}
+use Rattle.ur_pieces.specs.Forming.{FormedAs}
 use Rattle.ur_pieces.proofs.Staying.{scope_stays, steps_stay, stays_then, instances_stay}
 use Rattle.ur_pieces.proofs.Scoped.{added_at, added_more}
 use Rattle.ur_opening.specs.Opened.{IsOpened}

@@ -1,5 +1,5 @@
 -- Forms of expressions, and what may be static.
-use Rattle.std.proofs.Common.{◌≡◌, ℕ, List, [], ◌∷◌, Option, None, Some, Result, Ok, Err, IsErrAnd, refl, sym, ap, subst, ◌∙◌}
+use Rattle.std.proofs.Common.{◌≡◌, ℕ, [], ◌∷◌, Option, None, Some, Result, sym, ap, subst, ◌∙◌}
 use Rattle.ur_tree.specs.declared.exp.Exp.{Exp}
 use Rattle.ur_tree.specs.declared.closed.Static.{Static}
 use Rattle.ur_source.specs.Items as i
@@ -8,12 +8,10 @@ use Rattle.ur_source.specs.Source.{source_of}
 use Rattle.ur_unfolding.specs.declared.head.Head.TheVariants as head
 use Rattle.ur_unfolding.specs.declared.head.Opened.{Opened}
 use Rattle.ur_unfolding.specs.declared.halt.Halt.{Halt}
-use Rattle.ur_unfolding.specs.declared.halt.Halt.TheVariants as halt
 use Rattle.ur_closing.specs.Scopes.{MayBeAt}
 use Rattle.ur_pieces.specs.declared.piece.Piece.{Piece}
 use Rattle.ur_pieces.specs.declared.opening.Opening.{Opening}
 use Rattle.ur_pieces.specs.Told.{closed}
-use Rattle.ur_pieces.specs.Keys.{Gives}
 use Rattle.ur_pieces.specs.Standing.{ScopeIs, IsWhole, instances_in}
 use Rattle.ur_pieces.specs.Forming.{FormedAs, OpensExp}
 use Rattle.ur_opening.specs.Opened.{IsOpened}
@@ -36,8 +34,3 @@ pub opens_exp : (old new : Opening) (n : ℕ) (e shape : Exp) (r : Result (Opene
     → ((scope : Scope) → ScopeIs old n scope → IsWhole old → FormedAs old new (form scope) r) → OpensExp old new n e r
 opens_exp old new n e shape r form is forms go =
     λ scope at whole. subst (λ f. FormedAs old new f r) (sym (ap (λ e. form_of (source_of old.typed.now) (i.exp scope e)) is ∙ forms scope)) (go scope at whole)
-
--- only want of memory ends it
-pub gives_exit : {A : Type 0} (Q : A → Type 0) (r : Result A Halt) (e : Halt) → IsErrAnd r (λ h. h ≡ e) → e ≡ halt.Memory → Gives Q r
-gives_exit Q (Ok x) e q is = absurd q
-gives_exit Q (Err h) e q is = q ∙ is

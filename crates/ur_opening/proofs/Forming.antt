@@ -105,6 +105,7 @@ formed_after old mid new form (Ok o) t e g = record {
 }
 formed_after old mid new form (Err halt.Nodes) t e g = absurd g
 formed_after old mid new form (Err halt.Nesting) t e g = absurd g
-formed_after old mid new form (Err halt.Instances) t e g = record { same = g.same ∙ e; full = g.full; called = g.called; is_called = g.is_called; unnumbered = g.unnumbered }
+formed_after old mid new form (Err (halt.Instances function)) t e g =
+    record { same = g.same ∙ e; full = g.full; called = g.called; is_called = g.is_called; unnumbered = g.unnumbered; is_of = g.is_of }
 formed_after old mid new form (Err halt.Large) t e g = subst (λ (app : Typed). IsLarge (source_of app) form) t g
 formed_after old mid new form (Err halt.Memory) t e g = tt

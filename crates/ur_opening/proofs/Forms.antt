@@ -21,7 +21,7 @@ use Rattle.ur_tree.specs.declared.exp.Exp.TheVariants as x
 use Rattle.ur_tree.specs.declared.closed.Static.{out-Static}
 use Rattle.ur_meaning.specs.Form.{int_form, text_form, bool_form, variable_form, strict_form, same_form, choice_form, let_form, case_form, each_form, no_form}
 use Rattle.ur_source.specs.Reading.{label_number, closed_type, result_type, fold_steps}
-use Rattle.ur_source.specs.Items.{Source, Scope, ItemForm, exp, part, folding, asking, exps, markups, optional, form_with, strict_with, if_static, only_where, is_computed, static_in, applied_form, unary_form, binary_form, field_numbers, label_name, route_of, has_unit, open_form, part_form, form_of}
+use Rattle.ur_source.specs.Items.{Source, Scope, exp, part, folding, asking, exps, markups, optional, form_with, strict_with, if_static, only_where, is_computed, static_in, applied_form, unary_form, binary_form, field_numbers, label_name, route_of, has_unit, open_form, part_form, form_of}
 
 -- ---- expressions
 

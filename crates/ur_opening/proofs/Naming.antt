@@ -1,5 +1,5 @@
 -- Functions by their names, and constructors that are too large.
-use Rattle.std.proofs.Common.{◌≡◌, ℕ, List, [], map, Option, None, Some, Result, Ok, Err, refl, sym, ap, subst, ◌∙◌}
+use Rattle.std.proofs.Common.{◌≡◌, ℕ, List, [], map, Option, None, Some, Result, Err, refl, sym, ap, subst, ◌∙◌}
 use Rattle.std.specs.Prelude.{slice_get}
 use Rattle.ur_rows.specs.declared.normal.Normal.{Normal}
 use Rattle.ur_rows.specs.Put.{instance}
@@ -14,11 +14,10 @@ use Rattle.ur_meaning.specs.Form.{call_form, no_form, callee}
 use Rattle.ur_meaning.specs.Instances as n
 use Rattle.ur_source.specs.Reading.{Cons}
 use Rattle.ur_source.specs.Items as i
-use Rattle.ur_source.specs.Items.{Source, Scope, Item, ItemForm, exps, form_of, form_with, fixed_args, value_args, static_in, applied_form, constant_form, if_static}
+use Rattle.ur_source.specs.Items.{Source, Scope, Item, exps, form_of, form_with, fixed_args, value_args, static_in, applied_form, constant_form, if_static}
 use Rattle.ur_source.specs.Source.{source_of}
-use Rattle.ur_closing.specs.Held.{Held, Grows}
+use Rattle.ur_closing.specs.Held.{Held}
 use Rattle.ur_closing.specs.Scopes.{Statics, AreAt}
-use Rattle.ur_closing.proofs.Standing.{statics_grown}
 use Rattle.ur_closed.proofs.Equations.{static-Function}
 use Rattle.ur_unfolding.specs.declared.head.Head.TheVariants as head
 use Rattle.ur_unfolding.specs.declared.head.Opened.{Opened}
@@ -33,7 +32,6 @@ use Rattle.ur_pieces.specs.Standing.{ScopeIs, IsWhole, instances_in}
 use Rattle.ur_pieces.specs.Forming.{FormedAs, OpensExp, CallsBy, IsLarge, itself, in_part}
 use Rattle.ur_pieces.proofs.Staying.{instances_stay, scope_stays, whole_stays}
 use Rattle.ur_opening.specs.Opened.{IsOpened}
-use Rattle.ur_opening.specs.Applying.{AreMayBeAt}
 use Rattle.ur_opening.proofs.Forms.{form-Apply, form-Function}
 use Rattle.ur_opening.proofs.Forming.{none_formed, formed_after}
 use Rattle.ur_opening.proofs.Called.{call-unknown, call-dynamic, call-static, closed-Function, instance_is}
@@ -43,7 +41,7 @@ use Rattle.ur_opening.proofs.Formed.{opens_exp}
 pub cons_halt : (old new : Opening) (held : Held) (k : Instance) (items : List Item) (h : Halt) → AreNumbered held k.cons (Err h) → FormedAs old new (call_form k items) (Err h)
 cons_halt old new held k items halt.Nodes g = absurd g
 cons_halt old new held k items halt.Nesting g = absurd g
-cons_halt old new held k items halt.Instances g = absurd g
+cons_halt old new held k items (halt.Instances function) g = absurd g
 cons_halt old new held k items halt.Large g = record { called = k; calls = itself refl; large = g }
 cons_halt old new held k items halt.Memory g = tt
 
@@ -97,7 +95,7 @@ module _ (p : Source) (scope : Scope) (k : ℕ) (cons : List Normal) where
       → FormedAs old new (if_static (static_in p scope (x.Function k cons)) no_form) (Err h)
   name_halts old new held f halt.Nodes q e none g = absurd g
   name_halts old new held f halt.Nesting q e none g = absurd g
-  name_halts old new held f halt.Instances q e none g = absurd g
+  name_halts old new held f (halt.Instances function) q e none g = absurd g
   name_halts old new held f halt.Large q e none g =
       subst (λ (source : Source). IsLarge source (if_static (static_in p scope (x.Function k cons)) no_form)) q
       (record { called = record { function = k; cons = named; fixed = [] }; calls = name_calls f e none; large = g })

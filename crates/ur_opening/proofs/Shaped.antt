@@ -1,9 +1,8 @@
 -- The forms of single kinds of expressions.
-use Rattle.std.proofs.Common.{◌≡◌, ℕ, true, false, List, [], ◌∷◌, map, Option, None, Some, Result, Ok, Err, refl, sym, ap, ap₂, subst, ◌∙◌}
+use Rattle.std.proofs.Common.{◌≡◌, ℕ, true, false, List, [], ◌∷◌, map, Result, refl, sym, ap, subst}
 use Rattle.std.specs.List.{AllZip}
 use Rattle.ur_terms.specs.declared.term.Op.{Op}
 use Rattle.ur_terms.specs.declared.term.Op.TheVariants as op
-use Rattle.ur_rows.specs.declared.normal.Normal.{Normal}
 use Rattle.ur_tree.specs.declared.exp.Unary.{Unary}
 use Rattle.ur_tree.specs.declared.exp.Unary.TheVariants as unary
 use Rattle.ur_tree.specs.declared.exp.Binary.{Binary}
@@ -14,7 +13,7 @@ use Rattle.ur_tree.specs.declared.exp.Param.{Param}
 use Rattle.ur_tree.specs.declared.exp.Exp.{Exp}
 use Rattle.ur_tree.specs.declared.exp.Exp.TheVariants as x
 use Rattle.ur_terms.specs.declared.term.Pattern.{Pattern}
-use Rattle.ur_meaning.specs.Form.{strict_form, same_form, choice_form, case_form, each_form, no_form}
+use Rattle.ur_meaning.specs.Form.{strict_form, choice_form, case_form, each_form, no_form}
 use Rattle.ur_source.specs.Items as i
 use Rattle.ur_source.specs.Items.{Source, Scope, Item, exps, if_static, static_in, form_of, unary_form, binary_form}
 use Rattle.ur_source.specs.Source.{source_of}
@@ -24,12 +23,12 @@ use Rattle.ur_unfolding.specs.declared.halt.Halt.{Halt}
 use Rattle.ur_unfolding.specs.Heads as heads
 use Rattle.ur_pieces.specs.declared.piece.Piece.{Piece}
 use Rattle.ur_pieces.specs.declared.opening.Opening.{Opening}
-use Rattle.ur_pieces.specs.Told.{Told, exp, bool, asking, exps_told}
+use Rattle.ur_pieces.specs.Told.{exp, bool, asking, exps_told}
 use Rattle.ur_pieces.specs.Standing.{ScopeIs, SaysFor, IsWhole, instances_in}
 use Rattle.ur_pieces.specs.Forming.{FormedAs, OpensExp}
 use Rattle.ur_opening.specs.Opened.{IsOpened}
 use Rattle.ur_opening.specs.Operators.{unary_op, Operates, IsBinary}
-use Rattle.ur_opening.proofs.Forms.{form-Fixed, form-Val, form-Function, form-Lambda}
+use Rattle.ur_opening.proofs.Forms.{form-Fixed, form-Val, form-Lambda}
 use Rattle.ur_opening.proofs.Telling.{exps_say}
 use Rattle.ur_opening.proofs.Forming.{opened_formed, none_formed, strict_formed, same_formed}
 
@@ -40,9 +39,6 @@ static_form-Fixed p e n is scope = subst (λ e. form_of p (i.exp scope e) ≡ if
 
 pub static_form-Val : (p : Source) (e : Exp) (n : ℕ) → e ≡ x.Val n → (scope : Scope) → form_of p (i.exp scope e) ≡ if_static (static_in p scope e) no_form
 static_form-Val p e n is scope = subst (λ e. form_of p (i.exp scope e) ≡ if_static (static_in p scope e) no_form) (sym is) (form-Val p scope n)
-
-pub static_form-Function : (p : Source) (e : Exp) (k : ℕ) (cons : List Normal) → e ≡ x.Function k cons → (scope : Scope) → form_of p (i.exp scope e) ≡ if_static (static_in p scope e) no_form
-static_form-Function p e k cons is scope = subst (λ e. form_of p (i.exp scope e) ≡ if_static (static_in p scope e) no_form) (sym is) (form-Function p scope k cons)
 
 pub opens_static : (old new : Opening) (n : ℕ) (e : Exp) (r : Result (Opened Piece) Halt) → ((scope : Scope) → form_of (source_of old.typed.now) (i.exp scope e) ≡ if_static (static_in (source_of old.typed.now) scope e) no_form)
     → ((scope : Scope) → ScopeIs old n scope → IsWhole old → FormedAs old new (if_static (static_in (source_of old.typed.now) scope e) no_form) r) → OpensExp old new n e r

@@ -1,6 +1,5 @@
 -- What the table of forms promises.
-use Rattle.std.proofs.Common.{◌≡◌, ◌≤◌, ℕ, Bool, List, [], ◌∷◌, ◌++◌, map, length, Option, None, Some, Result, Ok, Err, refl, sym, ap, ap₂, subst, ◌∙◌, append-nil}
-use Rattle.std.specs.List.{AllZip}
+use Rattle.std.proofs.Common.{◌≡◌, ℕ, Bool, List, [], ◌∷◌, map, Option, None, Some, Result, Ok, Err, refl, sym, ap, ap₂, subst, ◌∙◌, append-nil}
 use Rattle.ur_tree.specs.declared.typed.Typed.{Typed}
 use Rattle.ur_tree.specs.declared.exp.Exp.{Exp}
 use Rattle.ur_tree.specs.declared.exp.Exp.TheVariants as x
@@ -9,7 +8,7 @@ use Rattle.ur_tree.specs.declared.closed.Static.{Static}
 use Rattle.ur_tree.specs.declared.closed.Instance.{Instance}
 use Rattle.ur_meaning.specs.Form.{Language, callee, parts}
 use Rattle.ur_meaning.specs.Instances as n
-use Rattle.ur_meaning.specs.Instances.{Among, Calls, Different, IsNumbered}
+use Rattle.ur_meaning.specs.Instances.{Among, Calls, Different}
 use Rattle.ur_source.specs.Reading.{Cons}
 use Rattle.ur_source.specs.Items as i
 use Rattle.ur_source.specs.Items.{Scope, Item, form_of}
@@ -26,9 +25,9 @@ use Rattle.ur_pieces.specs.declared.piece.Piece.{Piece}
 use Rattle.ur_pieces.specs.declared.opening.Opening.{Opening}
 use Rattle.ur_pieces.specs.declared.opening.Key.{Key}
 use Rattle.ur_pieces.specs.Told.{exp, part, bool, closed, folding, asking, told}
-use Rattle.ur_pieces.specs.Keys.{instance_of, IsAdded, nothing, last}
+use Rattle.ur_pieces.specs.Keys.{instance_of, IsOf, nothing, last}
 use Rattle.ur_pieces.specs.Standing.{ScopeIs, StepsLeft, SaysFor, StandsFor, IsWhole, instances_in, language}
-use Rattle.ur_pieces.specs.Moving.{Widens, Stays, Moves}
+use Rattle.ur_pieces.specs.Moving.{Stays, Moves}
 use Rattle.ur_pieces.specs.Forming.{AddedFor, Opens, FormedAs, OpensItem, OpensExp, CallsBy, itself, in_part, IsTooLarge}
 use Rattle.ur_pieces.proofs.Staying.{says_stays, moves_of, instances_stay}
 use Rattle.ur_pieces.proofs.Numbered.{instances_differ}
@@ -59,7 +58,7 @@ calls_by app i k (in_part j among e) = n.within i j k (subst (λ f. Among (parts
 
 -- the form of the table is that of the source
 pub opens_to : (old new : Opening) (i : Item) (r : Result (Opened Piece) Halt) → IsWhole new → FormedAs old new (form_of (source_of old.typed.now) i) r
-    → OpensTo (language old.typed.now) IsTooLarge (Stands new) (instances_in old) (instances_in new) i r
+    → OpensTo (language old.typed.now) IsTooLarge IsOf (Stands new) (instances_in old) (instances_in new) i r
 opens_to old new i (Ok o) whole f =
     let p = language old.typed.now in
     let g : Opens old new (p.form i) o = subst (λ form. Opens old new form o) (sym (form_is old.typed.now i)) f in
@@ -71,7 +70,7 @@ opens_to old new i (Ok o) whole f =
     }
 opens_to old new i (Err halt.Nodes) whole f = absurd f
 opens_to old new i (Err halt.Nesting) whole f = absurd f
-opens_to old new i (Err halt.Instances) whole f =
+opens_to old new i (Err (halt.Instances function)) whole f =
     let p = language old.typed.now in
     record {
       grown = grown_none p i (instances_in old) (instances_in new) f.same;
@@ -79,6 +78,7 @@ opens_to old new i (Err halt.Instances) whole f =
       one = f.called;
       called = called p i f.called (ap callee (form_is old.typed.now i) ∙ f.is_called);
       unnumbered = f.unnumbered;
+      is_named = f.is_of;
     }
 opens_to old new i (Err halt.Large) whole f = record {
   instance = f.called;
@@ -118,7 +118,7 @@ pub embodied : (p : Language Item Instance) (s : Opening) (k : Instance) (r : Re
 embodied p s k (Ok q) whole h = (h.0, h.1, (whole, h.2))
 embodied p s k (Err halt.Nodes) whole h = absurd h
 embodied p s k (Err halt.Nesting) whole h = absurd h
-embodied p s k (Err halt.Instances) whole h = absurd h
+embodied p s k (Err (halt.Instances function)) whole h = absurd h
 embodied p s k (Err halt.Large) whole h = absurd h
 embodied p s k (Err halt.Memory) whole h = tt
 

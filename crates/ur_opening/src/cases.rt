@@ -1,5 +1,5 @@
 //! The forms of `case`.
-ghost use Rattle.std.specs.Prelude.{◌≡◌, ◌∷◌, [], ◌++◌, map, IfOk};
+ghost use Rattle.std.specs.Prelude.{◌≡◌, ◌∷◌, ◌++◌, map, IfOk};
 ghost use Rattle.ur_unfolding.specs.declared.head.Head.TheVariants as heads;
 ghost use Rattle.ur_pieces.specs.Keys.{Gives};
 ghost use Rattle.ur_pieces.specs.Told.{told, exp};

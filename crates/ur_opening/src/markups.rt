@@ -1,5 +1,5 @@
 //! The forms of parts of XML.
-ghost use Rattle.std.specs.Prelude.{◌≡◌, [], ◌++◌, length};
+ghost use Rattle.std.specs.Prelude.{◌≡◌, ◌++◌, length};
 ghost use Rattle.ur_terms.specs.declared.term.Op.TheVariants as op;
 ghost use Rattle.ur_tree.specs.declared.exp.Markup.TheVariants as markup;
 ghost use Rattle.ur_source.specs.Items.{Scope, has_unit, label_name, part as part_item, route_of};

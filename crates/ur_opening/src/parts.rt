@@ -8,7 +8,6 @@ ghost use Rattle.ur_opening.specs.Opened.{IsOpened};
 use std::alloc::Global;
 use ur_base::{Boxed, List};
 use ur_pieces::Piece;
-use ur_terms::Op;
 use ur_tree::{Exp, Markup};
 use ur_unfolding::{Halt, Head, Opened};
 

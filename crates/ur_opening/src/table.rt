@@ -24,6 +24,7 @@ impl<'a> Table for Source<'a> {
     ghost use Rattle.ur_tree.specs.declared.closed.Instance.{Instance};
     ghost use Rattle.ur_source.specs.Items.{Item};
     ghost use Rattle.ur_pieces.specs.Forming.{IsTooLarge};
+    ghost use Rattle.ur_pieces.specs.Keys.{IsOf};
     ghost use Rattle.ur_pieces.specs.Standing.{IsWhole, StandsFor, instances_in, language};
 
     type Piece = Piece<'a>;
@@ -37,6 +38,8 @@ impl<'a> Table for Source<'a> {
     ghost instances = { λ s. instances_in s.of };
 
     ghost large = { IsTooLarge };
+
+    ghost named = { IsOf };
 
     ghost stands = { λ s q i. IsWhole s.of × StandsFor s.of q i };
 
@@ -54,6 +57,13 @@ impl<'a> Table for Source<'a> {
 
     fn has(&self, number: u32) -> bool {
         (number as usize) < self.of.instances.len()
+    }
+
+    fn name(&self, number: u32) -> Option<u32> {
+        match self.of.instances.get_index(number as usize) {
+            Some(key) => Some(key.function),
+            None => None,
+        }
     }
 }
 

@@ -1,12 +1,12 @@
 -- Lists whose elements have numbers.
-use Rattle.std.proofs.Common.{◌≡◌, ◌≢◌, ◌<◌, ◌≤◌, ℕ, zero, suc, ◌⊎◌, inl, inr, List, [], ◌∷◌, ◌++◌, map, length, get_or, None, Some, refl, sym, ap, ap₂, subst, ◌∙◌, arith}
+use Rattle.std.proofs.Common.{◌≡◌, ◌≢◌, ◌<◌, ℕ, zero, suc, ◌⊎◌, inl, inr, List, [], ◌∷◌, ◌++◌, map, length, get_or, None, Some, refl, sym, ap, ap₂, subst, arith}
 use Rattle.std.specs.Prelude.{slice_get}
 use Rattle.std.specs.List.{AllByRecursion}
 use Rattle.std.proofs.lemmas.Option.{slice_get-get_or}
 use Rattle.ur_meaning.specs.Instances.{Different, IsNumbered}
 use Rattle.ur_closing.specs.Lists.{IsAbsent}
 use Rattle.ur_closing.specs.Held.{AreBelow}
-use Rattle.ur_closing.specs.Scopes.{IsAt, AreAt}
+use Rattle.ur_closing.specs.Scopes.{AreAt}
 use Rattle.ur_closing.proofs.Once.{once_at}
 
 pub the_same : {A : Type 0} (x y : A) → Some x ≡ Some y → x ≡ y

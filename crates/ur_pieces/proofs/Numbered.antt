@@ -1,5 +1,5 @@
 -- Keys that are told apart are instances that are told apart.
-use Rattle.std.proofs.Common.{◌≡◌, ◌≤◌, ℕ, ◌⊎◌, inl, inr, List, [], ◌∷◌, ◌++◌, map, length, Result, Ok, Err, refl, sym, ap, subst, ◌∙◌, append-nil}
+use Rattle.std.proofs.Common.{◌≡◌, ◌≤◌, ℕ, List, [], ◌∷◌, map, Result, Ok, Err, refl, sym, ap, subst, ◌∙◌, append-nil}
 use Rattle.std.proofs.lemmas.List.{map-append, length-map}
 use Rattle.ur_rows.specs.declared.normal.Normal.TheVariants as normal
 use Rattle.ur_rows.specs.Made.{unit}
@@ -13,8 +13,7 @@ use Rattle.ur_closing.proofs.Laws.{grows_so}
 use Rattle.ur_closing.proofs.Differ.{last_differs}
 use Rattle.ur_pieces.specs.declared.opening.Opening.{Opening}
 use Rattle.ur_pieces.specs.declared.opening.Key.{Key}
-use Rattle.ur_pieces.specs.Keys.{instance_of, KeyFits, KeysFit, IsAdded, nothing, last, Numbers}
-use Rattle.ur_pieces.specs.Standing.{IsWhole, instances_in}
+use Rattle.ur_pieces.specs.Keys.{instance_of, KeyFits, KeysFit, IsOf, IsKeyOf, IsAdded, nothing, last, Numbers}
 use Rattle.ur_pieces.specs.Moving.{Widens, Moves}
 use Rattle.ur_pieces.proofs.Lists.{absent_of, all_last, numbers_once, different_map, numbered_back, numbered_map}
 use Rattle.ur_pieces.proofs.Staying.{vals_stay}
@@ -44,22 +43,22 @@ module _ (held : Held) (different_cons : Different held.cons) (different_statics
   added_instances keys new key h g (last e u) =
       last (ap (map (instance_of held)) e ∙ map-append (instance_of held) keys (key ∷ [])) (unnumbered keys key h g u)
 
-  pub numbers_instances : (keys new : List Key) (key : Key) (r : Result ℕ Halt) → KeysFit held keys → KeyFits held key → Numbers keys new key r
-      → Numbers (map (instance_of held) keys) (map (instance_of held) new) (instance_of held key) r
+  pub numbers_instances : (keys new : List Key) (key : Key) (r : Result ℕ Halt) → KeysFit held keys → KeyFits held key → Numbers IsKeyOf keys new key r
+      → Numbers IsOf (map (instance_of held) keys) (map (instance_of held) new) (instance_of held key) r
   numbers_instances keys new key (Ok j) h g n = (numbered_map (instance_of held) new j key n.0, added_instances keys new key h g n.1)
   numbers_instances keys new key (Err halt.Nodes) h g n = absurd n
   numbers_instances keys new key (Err halt.Nesting) h g n = absurd n
   numbers_instances keys new key (Err halt.Large) h g n = absurd n
-  numbers_instances keys new key (Err halt.Instances) h g n =
-      (ap (map (instance_of held)) n.0, subst (λ m. 4096 ≤ m) (sym (length-map keys (instance_of held))) n.1, unnumbered keys key h g n.2)
+  numbers_instances keys new key (Err (halt.Instances function)) h g n =
+      (ap (map (instance_of held)) n.0, subst (λ m. 4096 ≤ m) (sym (length-map keys (instance_of held))) n.1, unnumbered keys key h g n.2, n.3)
   numbers_instances keys new key (Err halt.Memory) h g n = ap (map (instance_of held)) n
 
-pub added_by : (keys new : List Key) (key : Key) (r : Result ℕ Halt) → Numbers keys new key r → IsAdded key keys new
+pub added_by : (keys new : List Key) (key : Key) (r : Result ℕ Halt) → Numbers IsKeyOf keys new key r → IsAdded key keys new
 added_by keys new key (Ok j) n = n.1
 added_by keys new key (Err halt.Nodes) n = absurd n
 added_by keys new key (Err halt.Nesting) n = absurd n
 added_by keys new key (Err halt.Large) n = absurd n
-added_by keys new key (Err halt.Instances) n = nothing n.0
+added_by keys new key (Err (halt.Instances function)) n = nothing n.0
 added_by keys new key (Err halt.Memory) n = nothing n
 
 fit_added : (held : Held) (keys new : List Key) (key : Key) → KeysFit held keys → KeyFits held key → IsAdded key keys new → KeysFit held new

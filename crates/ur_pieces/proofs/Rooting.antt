@@ -1,12 +1,11 @@
 -- The roots so far, and the roots.
-use Rattle.std.proofs.Common.{◌≡◌, ◌≢◌, ◌<◌, ◌≤◌, ◌↔◌, ℕ, zero, suc, ◌+◌, ◌⊎◌, inl, inr, List, [], ◌∷◌, ◌++◌, map, length, Some, refl, sym, ap, subst, ◌∙◌, arith}
+use Rattle.std.proofs.Common.{◌≡◌, ◌≢◌, ◌<◌, ◌≤◌, ℕ, zero, suc, ◌+◌, ◌⊎◌, inl, inr, List, [], ◌∷◌, ◌++◌, map, length, Some, refl, sym, ap, subst, ◌∙◌, arith}
 use Rattle.std.specs.Prelude.{slice_get}
-use Rattle.std.specs.List.{AllByRecursion}
 use Rattle.std.proofs.lemmas.Option.{slice_get_within}
 use Rattle.ur_tree.specs.declared.typed.Typed.{Typed}
 use Rattle.ur_tree.specs.declared.typed.Function.{Function}
 use Rattle.ur_tree.specs.declared.closed.Instance.{Instance}
-use Rattle.ur_meaning.specs.Instances.{Different, IsNumbered}
+use Rattle.ur_meaning.specs.Instances.{IsNumbered}
 use Rattle.ur_source.specs.Instances.{IsRoot}
 use Rattle.ur_closing.specs.Held.{Held}
 use Rattle.ur_closing.specs.Lists.{IsAbsent}

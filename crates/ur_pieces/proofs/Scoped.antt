@@ -1,5 +1,5 @@
 -- What is read under the scope with a number.
-use Rattle.std.proofs.Common.{◌≡◌, ◌≤◌, ℕ, List, [], ◌∷◌, ◌++◌, map, length, Option, None, Some, Result, Ok, Err, refl, sym, ap, subst, ◌∙◌, append-nil}
+use Rattle.std.proofs.Common.{◌≡◌, ℕ, List, [], ◌∷◌, ◌++◌, map, Some, Result, Ok, Err, refl, sym, ap, subst, ◌∙◌, append-nil}
 use Rattle.std.specs.Prelude.{slice_get, option_map}
 use Rattle.ur_rows.specs.declared.normal.Normal.TheVariants as normal
 use Rattle.ur_rows.specs.Made.{unit}
@@ -21,7 +21,7 @@ use Rattle.ur_pieces.specs.declared.opening.Key.{Key}
 use Rattle.ur_pieces.specs.Told.{exp}
 use Rattle.ur_unfolding.specs.declared.halt.Halt.{Halt}
 use Rattle.ur_pieces.specs.Keys.{instance_of, KeyFits, Added, Gives}
-use Rattle.ur_pieces.specs.Moving.{Widens, Stays}
+use Rattle.ur_pieces.specs.Moving.{Stays}
 use Rattle.ur_pieces.specs.Standing.{ScopeIs, SaysFor, IsWhole, instances_in, language}
 use Rattle.ur_pieces.proofs.Lists.{the_same, all_at, below_at, of_map}
 

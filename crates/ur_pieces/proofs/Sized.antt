@@ -1,7 +1,5 @@
 -- Numbers of constructors, or that one is too large.
-use Rattle.std.proofs.Common.{◌≡◌, ℕ, List, map, Result, Ok, Err, sym, subst}
-use Rattle.ur_rows.specs.declared.normal.Normal.{Normal}
-use Rattle.ur_rows.specs.Put.{instance}
+use Rattle.std.proofs.Common.{◌≡◌, ℕ, List, Result, Err, sym, subst}
 use Rattle.ur_reduce.specs.declared.count.Halt.{Halt as Reduced}
 use Rattle.ur_reduce.specs.declared.count.Halt.TheVariants as reduced
 use Rattle.ur_source.specs.Reading.{Cons}

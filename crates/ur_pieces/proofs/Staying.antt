@@ -1,18 +1,15 @@
 -- What pieces stand for stays.
 use Rattle.std.proofs.Common.{◌≡◌, ℕ, List, [], ◌∷◌, ◌++◌, map, length, reverse, take, refl, sym, ap, ap₂, subst, ◌∙◌, append-nil, append_assoc}
 use Rattle.std.specs.Prelude.{slice_get, Some}
-use Rattle.std.specs.List.{AllByRecursion, AllZip}
 use Rattle.ur_rows.specs.declared.normal.Normal.TheVariants as normal
 use Rattle.ur_rows.specs.Made.{unit}
 use Rattle.ur_tree.specs.declared.typed.Typed.{Typed}
-use Rattle.ur_tree.specs.declared.closed.Instance.{Instance}
 use Rattle.ur_meaning.specs.Instances.{Different}
 use Rattle.ur_source.specs.Reading.{Cons}
 use Rattle.ur_source.specs.Static.{static_record, vals_after}
 use Rattle.ur_source.specs.Items.{Scope, Item}
-use Rattle.ur_closing.specs.declared.node.Scope.{Scope as Numbers}
 use Rattle.ur_closing.specs.Held.{Held, Grows, AreBelow, con_at, static_at}
-use Rattle.ur_closing.specs.Scopes.{AreAt, Stands}
+use Rattle.ur_closing.specs.Scopes.{AreAt}
 use Rattle.ur_closing.proofs.Laws.{grows_so, grows_then}
 use Rattle.ur_closing.proofs.Standing.{at_longer, are_below, cons_are, statics_are, cons_grown, statics_grown, static_grown, stands_grown, steps_grown}
 use Rattle.ur_pieces.specs.declared.opening.Opening.{Opening}

@@ -9,7 +9,7 @@ use Rattle.ur_source.specs.Static.{static_of, static_record, vals_after}
 use Rattle.ur_closing.specs.Held.{Held, Grows}
 use Rattle.ur_closing.specs.Scopes.{Statics, IsAt, AreAt, MayBeAt}
 use Rattle.ur_closing.proofs.Laws.{grows_so, grows_then}
-use Rattle.ur_closing.proofs.Standing.{are_more, statics_grown, static_grown}
+use Rattle.ur_closing.proofs.Standing.{are_more, statics_grown}
 
 -- what a `val` is under those before it
 abbrev val_of : Names → Statics → ModuleVal → Static

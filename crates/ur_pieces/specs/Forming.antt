@@ -15,7 +15,7 @@ use Rattle.ur_unfolding.specs.Heads.{Heads}
 use Rattle.ur_closed.specs.Sizes.{SomeLarge}
 use Rattle.ur_pieces.specs.declared.piece.Piece.{Piece}
 use Rattle.ur_pieces.specs.declared.opening.Opening.{Opening}
-use Rattle.ur_pieces.specs.Keys.{IsAdded}
+use Rattle.ur_pieces.specs.Keys.{IsAdded, IsOf}
 use Rattle.ur_pieces.specs.Standing.{ScopeIs, StandsFor, IsWhole, instances_in}
 
 -- what is called is numbered, and nothing else
@@ -30,13 +30,14 @@ pub record Opens (old new : Opening) (form : ItemForm) (o : Opened Piece) : Type
   pub heads : Heads (instances_in new) o.head items form
   pub added : AddedFor (callee form) (instances_in old) (instances_in new)
 
--- what is called has no number, and there are as many as there may be
-pub record IsFull (old new : Opening) (form : ItemForm) : Type 0 where
+-- what is called has no number, and there are as many as there may be; this is its function
+pub record IsFull (old new : Opening) (form : ItemForm) (function : ℕ) : Type 0 where
   pub same : instances_in new ≡ instances_in old
   pub full : 4096 ≤ length (instances_in new)
   pub called : Instance
   pub is_called : callee form ≡ Some called
   pub unnumbered : ¬ (IsNumbered (instances_in new) called)
+  pub is_of : IsOf function called
 
 -- what a form calls, itself or in a part
 pub data CallsBy (p : Source) (form : ItemForm) (k : Instance) : Type 0 where
@@ -58,7 +59,7 @@ abbrev pub FormedAs : Opening → Opening → ItemForm → Result (Opened Piece)
 FormedAs old new form (Ok o) = Opens old new form o
 FormedAs old new form (Err halt.Nodes) = ⊥
 FormedAs old new form (Err halt.Nesting) = ⊥
-FormedAs old new form (Err halt.Instances) = IsFull old new form
+FormedAs old new form (Err (halt.Instances function)) = IsFull old new form function
 FormedAs old new form (Err halt.Large) = IsLarge (source_of old.typed.now) form
 FormedAs old new form (Err halt.Memory) = Unit {0}
 

@@ -19,19 +19,27 @@ KeyFits held key = AreBelow (length held.cons) key.cons × AreBelow (length held
 abbrev pub KeysFit : Held → List Key → Type 0
 KeysFit held = AllByRecursion (KeyFits held)
 
+-- it is an instance of the function with this number
+abbrev pub IsOf : ℕ → Instance → Type 0
+IsOf function k = k.function ≡ function
+
+-- the same of a key
+abbrev pub IsKeyOf : ℕ → Key → Type 0
+IsKeyOf function key = key.function ≡ function
+
 -- nothing is added, or last what was not there
 pub data IsAdded {K : Type 0} (k : K) (old new : List K) : Type 0 where
   nothing : new ≡ old → IsAdded k old new
   last : new ≡ old ++ k ∷ [] → ¬ (IsNumbered old k) → IsAdded k old new
 
--- The number of what is there, or was added last; only where 4,096 are there is there none for what is new.
-abbrev pub Numbers : {K : Type 0} → List K → List K → K → Result ℕ Halt → Type 0
-Numbers old new k (Ok j) = (slice_get new j ≡ Some k) × IsAdded k old new
-Numbers old new k (Err halt.Nodes) = ⊥
-Numbers old new k (Err halt.Nesting) = ⊥
-Numbers old new k (Err halt.Instances) = (new ≡ old) × (4096 ≤ length old) × ¬ (IsNumbered old k)
-Numbers old new k (Err halt.Large) = ⊥
-Numbers old new k (Err halt.Memory) = new ≡ old
+-- The number of what is there, or was added last; only where 4,096 are there is there none for what is new, which is named.
+abbrev pub Numbers : {K : Type 0} → (ℕ → K → Type 0) → List K → List K → K → Result ℕ Halt → Type 0
+Numbers named old new k (Ok j) = (slice_get new j ≡ Some k) × IsAdded k old new
+Numbers named old new k (Err halt.Nodes) = ⊥
+Numbers named old new k (Err halt.Nesting) = ⊥
+Numbers named old new k (Err (halt.Instances name)) = (new ≡ old) × (4096 ≤ length old) × (¬ (IsNumbered old k)) × named name k
+Numbers named old new k (Err halt.Large) = ⊥
+Numbers named old new k (Err halt.Memory) = new ≡ old
 
 -- it is added last
 abbrev pub Added : {A : Type 0} → List A → List A → A → Result ℕ Halt → Type 0

@@ -1,8 +1,7 @@
 //! Instances by number.
-ghost use Rattle.std.specs.Prelude.{◌≡◌, ◌≤◌, ◌∷◌, [], ◌++◌, length, OnOk, OnErr};
-ghost use Rattle.ur_meaning.specs.Instances.{IsNumbered};
+ghost use Rattle.std.specs.Prelude.{◌≡◌, ◌∷◌, [], ◌++◌, OnOk, OnErr};
 ghost use Rattle.ur_closing.specs.Lists.{IsAbsent};
-ghost use Rattle.ur_pieces.specs.Keys.{Numbers, instance_of};
+ghost use Rattle.ur_pieces.specs.Keys.{IsKeyOf, IsOf, Numbers, instance_of};
 ghost use Rattle.ur_pieces.specs.Moving.{Moves};
 ghost use Rattle.ur_pieces.specs.Standing.{IsWhole, instances_in};
 
@@ -26,36 +25,35 @@ pub fn add_key(instances: &mut IndexSet<Key>, key: Key) -> Result<(), Memory>
 }
 
 /// The number of a key, which is the last one where it is new.
-fn number(instances: &mut IndexSet<Key>, refused: &mut u32, key: Key) -> Result<u32, Halt>
-    ensures { Numbers instances.old.keys instances.new.keys key result }
+fn number(instances: &mut IndexSet<Key>, key: Key) -> Result<u32, Halt>
+    ensures { Numbers IsKeyOf instances.old.keys instances.new.keys key result }
 {
     match instances.get_index_of(&key) {
         Some(place) => {
             let number = number_of(place)?;
             Ok(number)
         }
-        None => last_number(instances, refused, key),
+        None => last_number(instances, key),
     }
 }
 
-fn last_number(instances: &mut IndexSet<Key>, refused: &mut u32, key: Key) -> Result<u32, Halt>
+fn last_number(instances: &mut IndexSet<Key>, key: Key) -> Result<u32, Halt>
     requires { IsAbsent instances.old.keys key }
-    ensures { Numbers instances.old.keys instances.new.keys key result }
+    ensures { Numbers IsKeyOf instances.old.keys instances.new.keys key result }
 {
     let count = instances.len();
     if count >= INSTANCES {
-        *refused = key.function;
-        return Err(Halt::Instances);
+        return Err(Halt::Instances(key.function));
     }
     add_key(instances, key)?;
     Ok(count as u32)
 }
 
 impl<'a> Opening<'a> {
-    /// The number of an instance, which is the last one where it is new. There is no memory for one whose numbers stand for
-    /// nothing.
+    /// The number of an instance, which is the last one where it is new. Where 4,096 are numbered a new one has none: it is
+    /// one too many, and its function is told. There is no memory for one whose numbers stand for nothing.
     pub fn number(&mut self, key: Key) -> Result<u32, Halt>
-        ensures number { IsWhole self.old → Numbers (instances_in self.old) (instances_in self.new) (instance_of self.old.closing key) result }
+        ensures number { IsWhole self.old → Numbers IsOf (instances_in self.old) (instances_in self.new) (instance_of self.old.closing key) result }
         ensures moves { Moves self.old self.new }
         ensures closing { self.new.closing ≡ self.old.closing }
         ensures scopes { self.new.scopes ≡ self.old.scopes }
@@ -64,6 +62,6 @@ impl<'a> Opening<'a> {
             return Err(Halt::Memory);
         }
         self.closing.each_once();
-        number(&mut self.instances, &mut self.refused, key)
+        number(&mut self.instances, key)
     }
 }

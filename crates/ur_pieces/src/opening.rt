@@ -19,8 +19,7 @@ pub struct Key {
 }
 
 /// A checked source, what is closed of it, the scopes in which pieces stand, the steps of folds, the last field's step
-/// first, what the modules' `val`s are, and the instances that are numbered. `refused` is the function of the instance for
-/// which there was no number.
+/// first, what the modules' `val`s are, and the instances that are numbered.
 #[derive(Drop)]
 pub struct Opening<'a> {
     pub typed: &'a Typed,
@@ -29,7 +28,6 @@ pub struct Opening<'a> {
     pub folds: List<List<Step>>,
     pub vals: List<u32>,
     pub instances: IndexSet<Key>,
-    pub refused: u32,
 }
 
 impl<'a> Opening<'a> {
@@ -49,7 +47,6 @@ impl<'a> Opening<'a> {
             folds: List::new(alloc),
             vals,
             instances,
-            refused: 0,
         })
     }
 }

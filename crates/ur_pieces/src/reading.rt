@@ -1,5 +1,5 @@
 //! What expressions, rows, labels and types are under the scope with a number.
-ghost use Rattle.std.specs.Prelude.{◌≡◌, option_map};
+ghost use Rattle.std.specs.Prelude.{◌≡◌};
 ghost use Rattle.ur_rows.specs.declared.normal.Normal.TheVariants as normal;
 ghost use Rattle.ur_rows.specs.Put.{as_label, instance};
 ghost use Rattle.ur_source.specs.Reading.{closed_type, fold_steps, label_number, result_type};

@@ -1,5 +1,5 @@
 -- The work list step by step: what is unfolded so far, and why it ends.
-use Rattle.std.proofs.Common.{◌≡◌, ℕ, zero, suc, ◌+◌, ◌≤◌, List, [], ◌∷◌, ◌++◌, length, map, Some, Ok, Err, refl, sym, ap, subst, ◌∙◌, arith, append-nil, append_assoc}
+use Rattle.std.proofs.Common.{◌≡◌, ℕ, zero, suc, ◌+◌, ◌≤◌, List, [], ◌∷◌, ◌++◌, length, map, None, Some, Ok, Err, refl, sym, ap, subst, ◌∙◌, arith, append-nil, append_assoc}
 use Rattle.std.specs.Prelude.{slice_get, ◌<◌}
 use Rattle.std.specs.List.{AllByRecursion, AllZip}
 use Rattle.std.proofs.lemmas.List.{length-append}
@@ -8,15 +8,15 @@ use Rattle.ur_terms.specs.declared.term.Term.{Term}
 use Rattle.ur_terms.specs.Shape.{nodes}
 use Rattle.ur_meaning.specs.Form.{Language}
 use Rattle.ur_meaning.specs.Instances as n
-use Rattle.ur_meaning.specs.Instances.{Different, IsNumbered, IsInstance, AtLeast, AllAtLeast, Weighed, total, TooManyInstances, HasTooManyNodes}
+use Rattle.ur_meaning.specs.Instances.{Different, IsNumbered, IsInstance, AtLeast, AllAtLeast, Weighed, total, HasTooManyNodes}
 use Rattle.ur_meaning.proofs.Parts.{known_one}
 use Rattle.ur_unfolding.specs.declared.halt.Halt.{Halt}
 use Rattle.ur_unfolding.specs.declared.halt.Halt.TheVariants as halt
 use Rattle.ur_unfolding.specs.Making.{State, state, list_nodes, AreWithin, Made, Halted, TooMany, OneMade}
-use Rattle.ur_unfolding.specs.Opening.{Embodies, Lasts}
-use Rattle.ur_unfolding.specs.Working.{Unfolded, Worked, Working, Ends, Steps, AllUnfolded, most_instances, most_nodes, most_levels}
+use Rattle.ur_unfolding.specs.Opening.{Embodies, IsNameAt, Lasts}
+use Rattle.ur_unfolding.specs.Working.{Unfolded, Worked, Working, HasOneTooMany, Ends, Steps, AllUnfolded, most_instances, most_nodes, most_levels}
 use Rattle.ur_unfolding.proofs.Going.{lasts_so, lasts_then}
-use Rattle.ur_unfolding.proofs.Working.{work_step, work_done, all_unfolded, work_full, work_deep, work_large, is_next, the_same, all_both, all_left, different_left}
+use Rattle.ur_unfolding.proofs.Working.{work_step, work_done, all_unfolded, work_full, work_deep, work_large, one_behind, is_next, the_same, all_both, all_left, different_left}
 
 -- ---- lists
 
@@ -160,20 +160,20 @@ module _ {I K : Type 0} (p : Language I K) where
             within = within_more most_levels bodies (a ∷ []) w.within m.within;
           }
 
-      pub ended : (large : K → Type 0) (new : State K) (h : Halt) → Halted p large (state instances room) most_levels (body ∷ []) new h → (Different instances → Different new.called) → Ends p large roots h
-      ended large new halt.Nodes t once =
+      pub ended : (large : K → Type 0) (named : ℕ → K → Type 0) (new : State K) (h : Halt) → Halted p large named (state instances room) most_levels (body ∷ []) new h → (Different instances → Different new.called) → Ends p large named roots h
+      ended large named new halt.Nodes t once =
           let l = left number k count at in
           work_weighs (IsNumbered roots) roots instances l.0 k bodies w.work l.1 body e room most_nodes w.nodes t
-      ended large new halt.Nesting t once =
+      ended large named new halt.Nesting t once =
           let l = left number k count at in
           work_deep p (IsNumbered roots) roots instances l.0 k bodies w.work l.1 body e most_levels t
-      ended large new halt.Instances t once =
+      ended large named new (halt.Instances name) t once =
           let l = left number k count at in
-          work_full p (IsNumbered roots) roots instances l.0 k bodies w.work l.1 body e new.called t (once w.work.different)
-      ended large new halt.Large t once =
+          work_full p (IsNumbered roots) roots instances l.0 k bodies w.work l.1 body e named new.called name t (once w.work.different)
+      ended large named new halt.Large t once =
           let l = left number k count at in
           work_large p (IsNumbered roots) roots instances l.0 k bodies w.work l.1 body e large t
-      ended large new halt.Memory t once = tt
+      ended large named new halt.Memory t once = tt
 
     pub finished : (number : ℕ) → length bodies ≡ number → number ≤ most_instances → length instances ≤ number → AllUnfolded p roots instances bodies
     finished number count few ends =
@@ -190,8 +190,8 @@ module _ {I K : Type 0} (p : Language I K) where
           within = w.within;
         }
 
-    pub too_many : most_instances < length instances → TooManyInstances p (IsNumbered roots) most_instances
-    too_many more = record { some_of = instances; different = w.work.different; are = w.work.only; too_many = more }
+    pub one_more : (named : ℕ → K → Type 0) (name : ℕ) → IsNameAt named instances most_instances (Some name) → HasOneTooMany p (IsNumbered roots) most_instances named name
+    one_more named name at = record { instance = at.0; is_named = at.2; too_many = one_behind p (IsNumbered roots) instances most_instances at.0 w.work.different w.work.only at.1 }
 
 -- ---- over a table
 
@@ -206,14 +206,14 @@ module _ {S P I K : Type 0} (language : S → Language I K) (instances : S → L
     once : sound old → Different (instances old) → Different (instances new)
     once s d = after.once (before.keeps s) (before.once s d)
 
-    pub next_halts : (large : K → Type 0) (h : Halt) → ((i : I) → stands mid q i → OneMade (language mid) large (state (instances mid) room) most_levels i (state (instances new) rest) (Err h))
-        → (roots : List K) → sound old → Working (language old) roots (instances old) made room → length made ≡ number → number < length (instances old) → Ends (language old) large roots h
-    next_halts large h one roots s w count below =
+    pub next_halts : (large : K → Type 0) (named : ℕ → K → Type 0) (h : Halt) → ((i : I) → stands mid q i → OneMade (language mid) large named (state (instances mid) room) most_levels i (state (instances new) rest) (Err h))
+        → (roots : List K) → sound old → Working (language old) roots (instances old) made room → length made ≡ number → number < length (instances old) → Ends (language old) large named roots h
+    next_halts large named h one roots s w count below =
         let k = is_there (language old) roots (instances old) made room w number below in
         let body = go k.0 k.1 s in
-        ended (language old) roots (instances old) made room w number k.0 count k.1 body.0 body.1 large (state (instances new) rest) h
-        (subst (λ l. Halted (language old) large (state l room) most_levels (body.0 ∷ []) (state (instances new) rest) h) numbered
-        (subst (λ p. Halted p large (state (instances mid) room) most_levels (body.0 ∷ []) (state (instances new) rest) h) before.same (one body.0 body.2))) (once s)
+        ended (language old) roots (instances old) made room w number k.0 count k.1 body.0 body.1 large named (state (instances new) rest) h
+        (subst (λ l. Halted (language old) large named (state l room) most_levels (body.0 ∷ []) (state (instances new) rest) h) numbered
+        (subst (λ p. Halted p large named (state (instances mid) room) most_levels (body.0 ∷ []) (state (instances new) rest) h) before.same (one body.0 body.2))) (once s)
 
     pub next_made : (a : Term) → ((i : I) → stands mid q i → Made (language mid) (state (instances mid) room) most_levels (i ∷ []) (state (instances new) rest) (a ∷ []))
         → (roots : List K) → sound old → Working (language old) roots (instances old) made room → length made ≡ number → number < length (instances old)
@@ -227,16 +227,16 @@ module _ {S P I K : Type 0} (language : S → Language I K) (instances : S → L
           length_last made a,
         )
 
-  pub no_body : (large : K → Type 0) (old mid : S) (number room : ℕ) (made : List Term) (h : Halt) → ((k : K) → slice_get (instances old) number ≡ Some k → sound old → Embodies (language old) (stands mid) k (Err h))
-      → (roots : List K) → sound old → Working (language old) roots (instances old) made room → number < length (instances old) → Ends (language old) large roots h
-  no_body large old mid number room made h go roots s w below =
+  pub no_body : (large : K → Type 0) (named : ℕ → K → Type 0) (old mid : S) (number room : ℕ) (made : List Term) (h : Halt) → ((k : K) → slice_get (instances old) number ≡ Some k → sound old → Embodies (language old) (stands mid) k (Err h))
+      → (roots : List K) → sound old → Working (language old) roots (instances old) made room → number < length (instances old) → Ends (language old) large named roots h
+  no_body large named old mid number room made h go roots s w below =
       let k = is_there (language old) roots (instances old) made room w number below in
       by h (go k.0 k.1 s)
     where
-      by : (h : Halt) → Embodies (language old) (stands mid) (is_there (language old) roots (instances old) made room w number below).0 (Err h) → Ends (language old) large roots h
+      by : (h : Halt) → Embodies (language old) (stands mid) (is_there (language old) roots (instances old) made room w number below).0 (Err h) → Ends (language old) large named roots h
       by halt.Nodes g = absurd g
       by halt.Nesting g = absurd g
-      by halt.Instances g = absurd g
+      by (halt.Instances name) g = absurd g
       by halt.Large g = absurd g
       by halt.Memory g = tt
 
@@ -257,12 +257,12 @@ module _ {S P I K : Type 0} (language : S → Language I K) (instances : S → L
         (subst (λ p. Working p (instances first) (instances new) more rest) a.lasts.same g.0, g.1 ∙ ap suc w.1);
   }
 
-  pub along_ends : (large : K → Type 0) (first mid new : S) (number room rest : ℕ) (made more : List Term) (h : Halt) → Along language instances stands sound first mid number made room → number < length (instances mid)
+  pub along_ends : (large : K → Type 0) (named : ℕ → K → Type 0) (first mid new : S) (number room rest : ℕ) (made more : List Term) (h : Halt) → Along language instances stands sound first mid number made room → number < length (instances mid)
       → ((roots : List K) → sound mid → Working (language mid) roots (instances mid) made room → length made ≡ number → number < length (instances mid)
-      → Steps (language mid) large roots (instances new) made more rest (Err h)) → sound first → Different (instances first) → Ends (language first) large (instances first) h
-  along_ends large first mid new number room rest made more h a below go s d =
+      → Steps (language mid) large named roots (instances new) made more rest (Err h)) → sound first → Different (instances first) → Ends (language first) large named (instances first) h
+  along_ends large named first mid new number room rest made more h a below go s d =
       let w = a.working s d in
-      subst (λ p. Ends p large (instances first) h) a.lasts.same
+      subst (λ p. Ends p large named (instances first) h) a.lasts.same
       (go (instances first) (a.lasts.keeps s) (subst (λ p. Working p (instances first) (instances mid) made room) (sym a.lasts.same) w.0) w.1 below)
 
   pub along_done : (first now : S) (number room : ℕ) (made : List Term) → Along language instances stands sound first now number made room → number ≤ most_instances
@@ -271,8 +271,14 @@ module _ {S P I K : Type 0} (language : S → Language I K) (instances : S → L
       let w = a.working s d in
       finished (language first) (instances first) (instances now) made room w.0 number w.1 few ends
 
-  pub along_full : (first now : S) (number room : ℕ) (made : List Term) → Along language instances stands sound first now number made room → most_instances < length (instances now)
-      → sound first → Different (instances first) → TooManyInstances (language first) (IsNumbered (instances first)) most_instances
-  along_full first now number room made a more s d =
+  pub along_full : (named : ℕ → K → Type 0) (first now : S) (number room name : ℕ) (made : List Term) → Along language instances stands sound first now number made room
+      → IsNameAt named (instances now) most_instances (Some name) → sound first → Different (instances first) → HasOneTooMany (language first) (IsNumbered (instances first)) most_instances named name
+  along_full named first now number room name made a at s d =
       let w = a.working s d in
-      too_many (language first) (instances first) (instances now) made room w.0 more
+      one_more (language first) (instances first) (instances now) made room w.0 named name at
+
+-- there is nothing at a place
+pub no_more : {A : Type 0} (xs : List A) (place : ℕ) → slice_get xs place ≡ None → length xs ≤ place
+no_more [] place e = omega arith
+no_more (x ∷ xs) zero e = absurd (cc)
+no_more (x ∷ xs) (suc place) e = omega (arith, no_more xs place e)

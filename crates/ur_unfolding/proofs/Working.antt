@@ -1,8 +1,9 @@
 -- The work list: that all instances are there, each once, and what it means that there are too many.
-use Rattle.std.proofs.Common.{◌≡◌, ◌≢◌, ℕ, zero, suc, List, [], ◌∷◌, ◌++◌, length, Some, refl, sym, ap, subst, ◌∙◌, arith, append_assoc, append-nil}
+use Rattle.std.proofs.Common.{◌≡◌, ◌≢◌, ℕ, zero, suc, List, [], ◌∷◌, ◌++◌, length, take, Some, refl, sym, ap, subst, ◌∙◌, arith, append_assoc, append-nil}
 use Rattle.std.specs.Prelude.{slice_get}
 use Rattle.std.specs.List.{AllByRecursion, AllZip}
-use Rattle.std.proofs.lemmas.List.{length-append}
+use Rattle.std.proofs.lemmas.List.{length-append, length-take-le}
+use Rattle.std.proofs.lemmas.Option.{slice_get_within}
 use Rattle.ur_terms.specs.declared.term.Term.{Term}
 use Rattle.ur_meaning.specs.Form.{Language}
 use Rattle.ur_meaning.specs.Unfolds.{Unfolds, UnfoldAll}
@@ -11,7 +12,7 @@ use Rattle.ur_meaning.specs.Instances as n
 use Rattle.ur_meaning.specs.Instances.{Among, Different, IsNumbered, IsInstance, Calls, AreInstances, Nests, TooManyInstances, IsTooDeep}
 use Rattle.ur_meaning.proofs.Parts.{get_longer, unfolds_more, calls_numbered}
 use Rattle.ur_unfolding.specs.Making.{State, state, CalledIn, Grown, Made, Full, TooDeep, CallsLarge}
-use Rattle.ur_unfolding.specs.Working.{Unfolded, Worked, HasLarge}
+use Rattle.ur_unfolding.specs.Working.{Unfolded, Worked, IsOneTooMany, HasOneTooMany, HasLarge}
 use Rattle.ur_unfolding.proofs.Making.{head_of, tail_of, nothing_in}
 
 -- ---- lists
@@ -64,6 +65,24 @@ different_last (x ∷ xs) k d new = (others_left x xs k d.0 (λ e. new (zero, ap
 pub different_left : {A : Type 0} (xs ys : List A) → Different (xs ++ ys) → Different xs
 different_left [] ys d = tt
 different_left (x ∷ xs) ys d = (all_left (λ y. x ≢ y) xs ys d.0, different_left xs ys d.1)
+
+-- ---- those before a place
+
+all_first : {A : Type 0} (P : A → Type 0) (place : ℕ) (xs : List A) → AllByRecursion P xs → AllByRecursion P (take place xs)
+all_first P zero xs h = tt
+all_first P (suc place) [] h = tt
+all_first P (suc place) (x ∷ xs) h = (h.0, all_first P place xs h.1)
+
+different_first : {A : Type 0} (place : ℕ) (xs : List A) → Different xs → Different (take place xs)
+different_first zero xs d = tt
+different_first (suc place) [] d = tt
+different_first (suc place) (x ∷ xs) d = (all_first (λ y. x ≢ y) place xs d.0, different_first place xs d.1)
+
+not_first : {A : Type 0} (place : ℕ) (xs : List A) (k : A) → Different xs → slice_get xs place ≡ Some k → ¬ (IsNumbered (take place xs) k)
+not_first zero xs k d at first = absurd (cc)
+not_first (suc place) [] k d at first = absurd (cc)
+not_first (suc place) (x ∷ xs) k d at (zero, e) = all_at (λ y. x ≢ y) xs place k d.0 at (the_same x k e)
+not_first (suc place) (x ∷ xs) k d at (suc j, e) = not_first place xs k d.1 at (j, e)
 
 -- ---- the work
 
@@ -136,6 +155,27 @@ module _ {I K : Type 0} (p : Language I K) (IsRoot : K → Type 0) where
     pub all_unfolded : AllZip (Unfolded p instances) instances bodies
     all_unfolded = subst (λ l. AllZip (Unfolded p instances) l bodies) (sym all_done) w.unfolded
 
+  -- ---- one too many
+
+  pub too_many : (most : ℕ) (k : K) → IsOneTooMany p IsRoot most k → TooManyInstances p IsRoot most
+  too_many most k t = record {
+    some_of = t.others ++ k ∷ [];
+    different = different_last t.others k t.different t.no_other;
+    are = all_both (IsInstance p IsRoot) t.others (k ∷ []) t.are (t.is_instance, tt);
+    too_many = omega (arith, t.so_many, length-append t.others (k ∷ []));
+  }
+
+  -- of those that are numbered, the one behind so many
+  pub one_behind : (instances : List K) (place : ℕ) (k : K) → Different instances → AllByRecursion (IsInstance p IsRoot) instances → slice_get instances place ≡ Some k → IsOneTooMany p IsRoot place k
+  one_behind instances place k d h at = record {
+    is_instance = all_at (IsInstance p IsRoot) instances place k h at;
+    others = take place instances;
+    are = all_first (IsInstance p IsRoot) place instances h;
+    different = different_first place instances d;
+    so_many = omega (arith, length-take-le place instances (omega (arith, slice_get_within instances place k at)));
+    no_other = not_first place instances k d at;
+  }
+
   -- ---- why the work ends before
 
   module _ (roots instances rest : List K) (k : K) (bodies : List Term) (w : Worked p IsRoot roots instances bodies) (next : w.rest ≡ k ∷ rest) (body : I) (e : p.body k ≡ Some body) where
@@ -144,13 +184,18 @@ module _ {I K : Type 0} (p : Language I K) (IsRoot : K → Type 0) where
         all_at (IsInstance p IsRoot) instances (length w.done) k w.only
         (ap (λ l. slice_get l (length w.done)) (w.whole ∙ ap (λ l. w.done ++ l) next) ∙ at_middle w.done k rest)
 
-    pub work_full : (new : List K) → Full p (body ∷ []) instances new → Different new → TooManyInstances p IsRoot 4096
-    work_full new f d = record {
-      some_of = new ++ f.one ∷ [];
-      different = different_last new f.one d f.unnumbered;
-      are = all_both (IsInstance p IsRoot) new (f.one ∷ []) (grown_are k body instances new is_next e w.only f.grown)
-          (n.called k f.one body is_next e (only_calls (body ∷ []) body f.called.item f.one refl f.called.among f.called.calls), tt);
-      too_many = omega (arith, f.full, length-append new (f.one ∷ []));
+    pub work_full : (named : ℕ → K → Type 0) (new : List K) (name : ℕ) → Full p named (body ∷ []) instances new name → Different new → HasOneTooMany p IsRoot 4096 named name
+    work_full named new name f d = record {
+      instance = f.one;
+      is_named = f.is_named;
+      too_many = record {
+        is_instance = n.called k f.one body is_next e (only_calls (body ∷ []) body f.called.item f.one refl f.called.among f.called.calls);
+        others = new;
+        are = grown_are k body instances new is_next e w.only f.grown;
+        different = d;
+        so_many = f.full;
+        no_other = f.unnumbered;
+      };
     }
 
     pub work_deep : (levels : ℕ) → TooDeep p (body ∷ []) levels → IsTooDeep p IsRoot levels

@@ -1,7 +1,7 @@
 //! What the code knows of a language.
 ghost use Rattle.std.specs.Prelude.{◌≡◌, ◌<◌, ◌↔◌, List, Some, IsTrue, length, slice_get};
 ghost use Rattle.ur_meaning.specs.Form.{Language};
-ghost use Rattle.ur_unfolding.specs.Opening.{OpensTo, Embodies, Lasts};
+ghost use Rattle.ur_unfolding.specs.Opening.{OpensTo, Embodies, IsNameAt, Lasts};
 
 use crate::halt::Halt;
 use crate::head::Opened;
@@ -9,7 +9,7 @@ use std::alloc::Global;
 
 /// A language as a table of forms, and the instances that are numbered so far. A piece stands for an expression.
 pub trait Table {
-    ghost use Rattle.std.specs.Prelude.{List};
+    ghost use Rattle.std.specs.Prelude.{ℕ, List};
     ghost use Rattle.ur_meaning.specs.Form.{Language};
 
     type Piece: Drop;
@@ -27,12 +27,15 @@ pub trait Table {
     /// Which instances are too large to be unfolded.
     ghost large: { Instance → Type 0 };
 
+    /// Which numbers name an instance where it is one too many.
+    ghost named: { ℕ → Instance → Type 0 };
+
     /// What holds of a table whose instances are told apart. A piece may stand for an expression in such a table alone.
     ghost sound: { Self → Type 0 };
 
     /// The form of an expression. What it calls is numbered.
     fn form(&mut self, alloc: Global, piece: &Self::Piece) -> Result<Opened<Self::Piece>, Halt>
-        ensures form { (i : Item) → stands self.old piece.now i → OpensTo (language self.old) large (stands self.new) (instances self.old) (instances self.new) i result }
+        ensures form { (i : Item) → stands self.old piece.now i → OpensTo (language self.old) large named (stands self.new) (instances self.old) (instances self.new) i result }
         ensures lasts { Lasts language instances stands sound self.old self.new };
 
     /// What the body of the instance with this number is.
@@ -44,4 +47,8 @@ pub trait Table {
     /// Whether there is an instance with this number.
     fn has(&self, number: u32) -> bool
         ensures { IsTrue result ↔ number < length (instances self.now) };
+
+    /// What names the instance with this number, if there is one.
+    fn name(&self, number: u32) -> Option<u32>
+        ensures { IsNameAt named (instances self.now) number result };
 }

@@ -1,5 +1,5 @@
 //! The terms of expressions.
-ghost use Rattle.std.specs.Prelude.{◌≡◌, ◌≢◌, [], ◌∷◌, ◌++◌};
+ghost use Rattle.std.specs.Prelude.{◌≢◌, [], ◌∷◌};
 ghost use Rattle.std.specs.List.{AllZip};
 ghost use Rattle.ur_unfolding.specs.declared.head.Head.TheVariants as head;
 ghost use Rattle.ur_unfolding.specs.Making.{state, AllMade, OneMade, Pushed};
@@ -25,7 +25,7 @@ pub fn term_of<T: Table>(
     levels: u32,
     piece: &T::Piece,
 ) -> Result<Term, Halt>
-    ensures made { (i : T.Item) → T.stands table.old piece.now i → OneMade (T.language table.old) T.large (state (T.instances table.old) room.old) levels i (state (T.instances table.new) room.new) result }
+    ensures made { (i : T.Item) → T.stands table.old piece.now i → OneMade (T.language table.old) T.large T.named (state (T.instances table.old) room.old) levels i (state (T.instances table.new) room.new) result }
     ensures lasts { Lasts T.language T.instances T.stands T.sound table.old table.new }
 {
     let opened = whole(alloc, table, piece)?;
@@ -41,7 +41,7 @@ fn node<T: Table>(
     levels: u32,
     opened: Opened<T::Piece>,
 ) -> Result<Term, Halt>
-    ensures made { (i : T.Item) (before : _) → Shown (T.language table.old) (T.stands table.old) before (T.instances table.old) i opened → opened.head ≢ head.Same → OneMade (T.language table.old) T.large (state before room.old) levels i (state (T.instances table.new) room.new) result }
+    ensures made { (i : T.Item) (before : _) → Shown (T.language table.old) (T.stands table.old) before (T.instances table.old) i opened → opened.head ≢ head.Same → OneMade (T.language table.old) T.large T.named (state before room.old) levels i (state (T.instances table.new) room.new) result }
     ensures lasts { Lasts T.language T.instances T.stands T.sound table.old table.new }
 {
     if opened.head.is_nothing() {
@@ -62,7 +62,7 @@ fn terms_of<T: Table>(
     levels: u32,
     parts: &List<T::Piece>,
 ) -> Result<List<Term>, Halt>
-    ensures made { (is : _) → AllZip (T.stands table.old) parts.now is → AllMade (T.language table.old) T.large (state (T.instances table.old) room.old) levels is (state (T.instances table.new) room.new) result }
+    ensures made { (is : _) → AllZip (T.stands table.old) parts.now is → AllMade (T.language table.old) T.large T.named (state (T.instances table.old) room.old) levels is (state (T.instances table.new) room.new) result }
     ensures lasts { Lasts T.language T.instances T.stands T.sound table.old table.new }
 {
     let pieces = parts.as_slice();
@@ -84,7 +84,7 @@ fn push_term<T: Table>(
     made: &mut List<Term>,
     piece: &T::Piece,
 ) -> Result<(), Halt>
-    ensures made { (i : T.Item) → T.stands table.old piece.now i → Pushed (T.language table.old) T.large (state (T.instances table.old) room.old) levels i (state (T.instances table.new) room.new) made.old made.new result }
+    ensures made { (i : T.Item) → T.stands table.old piece.now i → Pushed (T.language table.old) T.large T.named (state (T.instances table.old) room.old) levels i (state (T.instances table.new) room.new) made.old made.new result }
     ensures lasts { Lasts T.language T.instances T.stands T.sound table.old table.new }
 {
     let term = term_of(alloc, table, room, levels, piece)?;
@@ -94,7 +94,7 @@ fn push_term<T: Table>(
 
 /// The form of what an expression is the same as.
 fn whole<T: Table>(alloc: Global, table: &mut T, piece: &T::Piece) -> Result<Opened<T::Piece>, Halt>
-    ensures shown { (i : T.Item) → T.stands table.old piece.now i → ShowsIt (T.language table.old) T.large (T.stands table.new) (T.instances table.old) (T.instances table.new) i result }
+    ensures shown { (i : T.Item) → T.stands table.old piece.now i → ShowsIt (T.language table.old) T.large T.named (T.stands table.new) (T.instances table.old) (T.instances table.new) i result }
     ensures lasts { Lasts T.language T.instances T.stands T.sound table.old table.new }
 {
     let mut opened = table.form(alloc, piece)?;
@@ -113,7 +113,7 @@ fn only_part<T: Table>(
     table: &mut T,
     opened: &Opened<T::Piece>,
 ) -> Result<Opened<T::Piece>, Halt>
-    ensures form { (i : T.Item) → AllZip (T.stands table.old) opened.now.parts (i ∷ []) → OpensTo (T.language table.old) T.large (T.stands table.new) (T.instances table.old) (T.instances table.new) i result }
+    ensures form { (i : T.Item) → AllZip (T.stands table.old) opened.now.parts (i ∷ []) → OpensTo (T.language table.old) T.large T.named (T.stands table.new) (T.instances table.old) (T.instances table.new) i result }
     ensures lasts { Lasts T.language T.instances T.stands T.sound table.old table.new }
 {
     match opened.parts.get(0) {

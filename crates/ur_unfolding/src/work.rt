@@ -22,7 +22,7 @@ const LEVELS: u32 = 1024;
 
 /// The terms of the bodies of all instances, in order. Those that the table has numbered are the roots.
 pub fn all_terms<T: Table>(alloc: Global, table: &mut T) -> Result<List<Term>, Halt>
-    ensures made { T.sound table.old → Different (T.instances table.old) → AreUnfolded (T.language table.old) T.large (T.instances table.old) (T.instances table.new) result }
+    ensures made { T.sound table.old → Different (T.instances table.old) → AreUnfolded (T.language table.old) T.large T.named (T.instances table.old) (T.instances table.new) result }
     ensures lasts { Lasts T.language T.instances T.stands T.sound table.old table.new }
 {
     let mut room = NODES;
@@ -33,10 +33,10 @@ pub fn all_terms<T: Table>(alloc: Global, table: &mut T) -> Result<List<Term>, H
         }
         next_term(alloc, table, &mut room, &mut made, number)?;
     }
-    if table.has(INSTANCES) {
-        return Err(Halt::Instances);
+    match table.name(INSTANCES) {
+        Some(name) => Err(Halt::Instances(name)),
+        None => Ok(made),
     }
-    Ok(made)
 }
 
 /// One term more, of the body of the instance with this number.
@@ -47,7 +47,7 @@ fn next_term<T: Table>(
     made: &mut List<Term>,
     number: u32,
 ) -> Result<(), Halt>
-    ensures made { (roots : Items T.Instance) → T.sound table.old → Working (T.language table.old) roots (T.instances table.old) made.old room.old → length made.old ≡ number → number < length (T.instances table.old) → Steps (T.language table.old) T.large roots (T.instances table.new) made.old made.new room.new result }
+    ensures made { (roots : Items T.Instance) → T.sound table.old → Working (T.language table.old) roots (T.instances table.old) made.old room.old → length made.old ≡ number → number < length (T.instances table.old) → Steps (T.language table.old) T.large T.named roots (T.instances table.new) made.old made.new room.new result }
     ensures lasts { Lasts T.language T.instances T.stands T.sound table.old table.new }
 {
     let body = table.body(alloc, number)?;

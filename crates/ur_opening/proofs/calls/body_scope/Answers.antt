@@ -1,4 +1,4 @@
-use Rattle.std.proofs.Common.{refl, ap, ◌∙◌}
+use Rattle.std.proofs.Common.{refl}
 use Rattle.ur_pieces.proofs.Staying.{stays_so}
 use Rattle.ur_pieces.proofs.Scoped.{scopes_stay}
 use Rattle.ur_opening.proofs.Calling.{body_scoped}

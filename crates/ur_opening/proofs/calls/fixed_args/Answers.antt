@@ -1,4 +1,4 @@
-use Rattle.std.proofs.Common.{◌≡◌, ◌<◌, Some, rules, true, false, List, length, refl, sym, ap, subst, ◌∙◌}
+use Rattle.std.proofs.Common.{◌≡◌, ◌<◌, Some, rules, true, false, List, length, sym, ap, subst, ◌∙◌}
 use Rattle.ur_tree.specs.declared.exp.Exp.{Exp}
 use Rattle.ur_tree.specs.declared.exp.Param.{Param}
 use Rattle.ur_tree.specs.declared.typed.Typed.{Typed}
@@ -6,7 +6,7 @@ use Rattle.ur_source.specs.Items.{static_in, fixed_args}
 use Rattle.ur_source.specs.Source.{source_of}
 use Rattle.ur_pieces.proofs.Staying.{stays_so, stays_then, scope_stays, whole_stays}
 use Rattle.ur_opening.specs.Applying.{AreMayBeAt, IsPushed}
-use Rattle.ur_opening.proofs.Formed.{gives_exit}
+use Rattle.ur_opening.proofs.Forming.{not_given}
 use Rattle.ur_opening.proofs.Called.{no_args, fixed_from, fixed_more, fixed_stop, fixed_end}
 use Rattle.ur_opening.proofs.calls.fixed_args.Goals as goal
 
@@ -51,7 +51,7 @@ pub returns-in_err-pushed-clause-stays : goal.returns-in_err-pushed-clause-stays
 returns-in_err-pushed-clause-stays c = stays_then c.args.table.now c.loop-i.table c.push_fixed.new.table c.loop-i.invariant.0 c.in_err-pushed.ensures.stays
 
 pub returns-in_err-pushed-clause-made : goal.returns-in_err-pushed-clause-made
-returns-in_err-pushed-clause-made c = λ around at whole. gives_exit _ c.from_residual.result c.in_err-pushed.field-0.0 c.from_residual.ensures.1 (c.in_err-pushed.ensures.made around (scope_stays c.args.table.now c.loop-i.table c.loop-i.invariant.0.widens c.args.scope around at) (whole_stays c.args.table.now c.loop-i.table c.loop-i.invariant.0 whole))
+returns-in_err-pushed-clause-made c = λ around at whole. not_given _ c.from_residual.result c.in_err-pushed.field-0.0 c.from_residual.ensures.1 (c.in_err-pushed.ensures.made around (scope_stays c.args.table.now c.loop-i.table c.loop-i.invariant.0.widens c.args.scope around at) (whole_stays c.args.table.now c.loop-i.table c.loop-i.invariant.0 whole))
 
 pub returns-clause-made : goal.returns-clause-made
 returns-clause-made c = λ around at whole.

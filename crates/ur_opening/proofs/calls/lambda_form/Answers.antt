@@ -1,4 +1,4 @@
-use Rattle.std.proofs.Common.{[], ◌∷◌, ◌++◌, map, refl, sym, ap, ◌∙◌}
+use Rattle.std.proofs.Common.{[], ◌∷◌, ◌++◌, map, refl, ap, ◌∙◌}
 use Rattle.ur_source.specs.Items.{value_args}
 use Rattle.ur_closing.proofs.Standing.{stands_grown}
 use Rattle.ur_pieces.specs.Told.{told, exp, exps_told}

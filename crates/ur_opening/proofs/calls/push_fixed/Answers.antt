@@ -1,7 +1,7 @@
 use Rattle.ur_source.specs.Items.{static_in}
 use Rattle.ur_source.specs.Source.{source_of}
 use Rattle.ur_pieces.proofs.Staying.{stays_so}
-use Rattle.ur_opening.proofs.Formed.{gives_exit}
+use Rattle.ur_opening.proofs.Forming.{not_given}
 use Rattle.ur_opening.proofs.Applies.{pushed_no, pushed_none, pushed_some}
 use Rattle.ur_opening.proofs.calls.push_fixed.Goals as goal
 
@@ -18,4 +18,4 @@ pub returns-then-not-param-clause-stays : goal.returns-then-not-param-clause-sta
 returns-then-not-param-clause-stays c = stays_so c.args.table.now
 
 pub returns-in_err-static_in-clause-made : goal.returns-in_err-static_in-clause-made
-returns-in_err-static_in-clause-made c = λ around at whole. gives_exit _ c.from_residual.result c.in_err-static_in.field-0.0 c.from_residual.ensures.1 (c.in_err-static_in.ensures.made around at whole)
+returns-in_err-static_in-clause-made c = λ around at whole. not_given _ c.from_residual.result c.in_err-static_in.field-0.0 c.from_residual.ensures.1 (c.in_err-static_in.ensures.made around at whole)

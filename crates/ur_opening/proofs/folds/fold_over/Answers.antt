@@ -1,4 +1,4 @@
-use Rattle.std.proofs.Common.{refl, ap, subst, ◌∷◌, []}
+use Rattle.std.proofs.Common.{refl, subst, ◌∷◌, []}
 use Rattle.ur_unfolding.specs.declared.head.Head.TheVariants as head
 use Rattle.ur_pieces.specs.Told.{folding}
 use Rattle.ur_pieces.proofs.Staying.{stays_so}

@@ -1,4 +1,4 @@
-use Rattle.std.proofs.Common.{ℕ, ◌≡◌, Bool, Option, None, Some, ◌++◌, [], length, sym, subst, ◌∙◌}
+use Rattle.std.proofs.Common.{ℕ, ◌≡◌, None, Some, ◌++◌, [], length, sym, subst, ◌∙◌}
 use Rattle.ur_terms.specs.declared.term.Op.TheVariants as op
 use Rattle.ur_source.specs.Items.{has_unit}
 use Rattle.ur_unfolding.specs.declared.head.Head.TheVariants as head

@@ -1,4 +1,4 @@
-use Rattle.std.proofs.Common.{ℕ, ◌++◌, [], length, sym, ◌∙◌}
+use Rattle.std.proofs.Common.{◌++◌, [], length, sym, ◌∙◌}
 use Rattle.ur_terms.specs.declared.term.Op.TheVariants as op
 use Rattle.ur_source.specs.Items.{route_of}
 use Rattle.ur_unfolding.specs.declared.head.Head.TheVariants as head

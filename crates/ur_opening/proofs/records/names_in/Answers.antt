@@ -1,6 +1,6 @@
-use Rattle.std.proofs.Common.{None, Some, sym, ap, ◌∙◌}
+use Rattle.std.proofs.Common.{sym, ap, ◌∙◌}
 use Rattle.ur_source.specs.Items.{field_numbers}
-use Rattle.ur_opening.proofs.Formed.{gives_exit}
+use Rattle.ur_opening.proofs.Forming.{not_given}
 use Rattle.ur_opening.proofs.Recorded.{names_from, names_more, names_stop, names_end}
 use Rattle.ur_opening.proofs.records.names_in.Goals as goal
 
@@ -24,4 +24,4 @@ returns c = λ around at.
     ∙ ap (field_numbers c.args.table.now.typed.now.names around.cons) c.as_slice-all.ensures
 
 pub returns-in_err-field_name : goal.returns-in_err-field_name
-returns-in_err-field_name c = λ around at. gives_exit _ c.from_residual.result c.in_err-field_name.field-0.0 c.from_residual.ensures.1 (c.in_err-field_name.ensures around at)
+returns-in_err-field_name c = λ around at. not_given _ c.from_residual.result c.in_err-field_name.field-0.0 c.from_residual.ensures.1 (c.in_err-field_name.ensures around at)

@@ -1,4 +1,4 @@
-use Rattle.std.proofs.Common.{[], ◌++◌, map, Result, Ok, refl, sym, ap, ◌∙◌}
+use Rattle.std.proofs.Common.{◌++◌, map, Result, Ok, refl, sym, ap, ◌∙◌}
 use Rattle.ur_terms.specs.declared.term.Op.TheVariants as op
 use Rattle.ur_tree.specs.declared.exp.Exp.TheVariants as x
 use Rattle.ur_source.specs.Items as i

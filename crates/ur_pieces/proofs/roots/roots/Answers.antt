@@ -1,7 +1,7 @@
 use Rattle.std.proofs.Common.{List, subst}
 use Rattle.ur_tree.specs.declared.typed.Function.{Function}
 use Rattle.ur_pieces.specs.Rooted.{AreRootKeys}
-use Rattle.ur_pieces.proofs.Rooting.{roots_from, roots_end}
+use Rattle.ur_pieces.proofs.Rooting.{roots_end}
 use Rattle.ur_pieces.proofs.roots.roots.Goals as goal
 
 pub returns : goal.returns

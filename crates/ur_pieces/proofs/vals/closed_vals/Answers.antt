@@ -1,4 +1,4 @@
-use Rattle.ur_pieces.proofs.Valued.{vals_from, vals_more, vals_end}
+use Rattle.ur_pieces.proofs.Valued.{vals_from, vals_more}
 use Rattle.ur_pieces.proofs.vals.closed_vals.Goals as goal
 
 pub loop-i-init : goal.loop-i-init

@@ -12,10 +12,10 @@ pub returns-in_err-opened-2-clause-shown : goal.returns-in_err-opened-2-clause-s
 returns-in_err-opened-2-clause-shown g c =
     let same : c.loop-turn.opened.head ≡ head.Same = search rules in
     λ i at.
-    exit (λ r. ShowsIt (g.T.Table.language c.args.table.now) g.T.Table.large (g.T.Table.stands c.only_part.new.table) (g.T.Table.instances c.args.table.now)
+    exit (λ r. ShowsIt (g.T.Table.language c.args.table.now) g.T.Table.large g.T.Table.named (g.T.Table.stands c.only_part.new.table) (g.T.Table.instances c.args.table.now)
     (g.T.Table.instances c.only_part.new.table) i r)
     c.from_residual-in_err-opened-2.result c.in_err-opened-2.field-0.0 c.from_residual-in_err-opened-2.ensures.1
-    (seen_stops g.T.Table.language g.T.Table.instances g.T.Table.stands g.T.Table.sound g.T.Table.large c.args.table.now c.loop-turn.table c.only_part.new.table c.args.piece.now c.loop-turn.opened
+    (seen_stops g.T.Table.language g.T.Table.instances g.T.Table.stands g.T.Table.sound g.T.Table.large g.T.Table.named c.args.table.now c.loop-turn.table c.only_part.new.table c.args.piece.now c.loop-turn.opened
     c.in_err-opened-2.field-0.0 c.loop-turn.invariant same c.in_err-opened-2.ensures.form i at)
 
 pub loop-turn-preserved : goal.loop-turn-preserved
