@@ -6,4 +6,5 @@ pub mod Replies
 pub mod RowTypes
 pub mod SameTypes
 pub mod Table
+pub mod Told
 pub mod Unlikes

@@ -219,9 +219,29 @@ flow_place tag.Th h = absurd h
 flow_place tag.Form h = absurd h
 flow_place _ h = refl
 
+own_apart : {of within : ValueType} → place.Own of within ≡ place.InFlow → ⊥
+own_apart e = cc
+
+form_apart : place.AroundForm ≡ place.InFlow → ⊥
+form_apart e = cc
+
 pub element_to_flow : (t : Tag) (ts : List ValueType) (r : ValueType) → place_in t ≡ place.InFlow → ElementStands t ts r → Holds ts r
 element_to_flow t ts r e (of_its_own within s m) = absurd (subst (λ p. OfPlace p r within) e (place_stands t r within s))
 element_to_flow t ts r e (as_its_parts f h) = h
+
+flow_stands : (t : Tag) → place_in t ≡ place.InFlow → IsInFlow t
+flow_stands tag.Head e = own_apart e
+flow_stands tag.Title e = own_apart e
+flow_stands tag.Body e = own_apart e
+flow_stands tag.Table e = own_apart e
+flow_stands tag.Tr e = own_apart e
+flow_stands tag.Td e = own_apart e
+flow_stands tag.Th e = own_apart e
+flow_stands tag.Form e = form_apart e
+flow_stands _ e = tt
+
+pub flow_to_element : (t : Tag) (ts : List ValueType) (r : ValueType) → place_in t ≡ place.InFlow → Holds ts r → ElementStands t ts r
+flow_to_element t ts r e h = as_its_parts (flow_stands t e) h
 
 -- around a form
 pub form_to_element : (t : Tag) (ts : List ValueType) (r : ValueType) → place_in t ≡ place.AroundForm → (fs : List TypeField) × (r ≡ ty.Form fs) × MakeUp ts r

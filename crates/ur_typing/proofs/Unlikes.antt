@@ -1,11 +1,11 @@
 -- The texts of a misfit.
-use Rattle.std.proofs.Common.{◌≡◌, ℕ, ◌<◌, ◌≤◌, min, Bool, false, List, get_or, length, take, refl, sym, subst, arith}
+use Rattle.std.proofs.Common.{◌≡◌, ℕ, ◌<◌, min, Bool, false, List, get_or, length, take, refl, sym, subst, arith}
 use Rattle.std.specs.Prelude.{◌↔◌, IsTrue}
 use Rattle.std.proofs.Math.Nat.{min-le_left, min-le_right}
 use Rattle.std.proofs.lemmas.Option.{slice_get_read}
 use Rattle.ur_types.specs.declared.types.ValueType.{ValueType}
 use Rattle.ur_types.specs.Texts.{Names, type_text}
-use Rattle.ur_typing.specs.Saying.{two_types, nothing, FirstUnlike, differ, counts, IsFound, a_type}
+use Rattle.ur_typing.specs.Saying.{two_types, FirstUnlike, differ, IsFound, a_type}
 use Rattle.ur_typing.proofs.Covering.{not_so}
 
 -- a type's text is one of a type

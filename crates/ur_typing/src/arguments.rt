@@ -4,7 +4,9 @@ ghost use Rattle.ur_types.specs.declared.types.ValueType.TheVariants as ty;
 ghost use Rattle.ur_terms.specs.declared.term.Op.TheVariants as op;
 ghost use Rattle.ur_terms.specs.Types.{IsScalar, IsOrdered, OpType};
 ghost use Rattle.ur_code.specs.Fits.{signature};
-ghost use Rattle.ur_typing.specs.Answering.{Answers};
+ghost use Rattle.ur_typing.specs.Answering.{Answers, Says};
+ghost use Rattle.ur_typing.specs.Misfits.{OperationMisfit};
+ghost use Rattle.ur_typing.specs.Saying.{OtherTypes};
 ghost use Rattle.ur_typing.specs.Parts.{Shows};
 
 use crate::misfit::{Untyped, mismatch, no_type, unlike, unlike_these};
@@ -41,7 +43,8 @@ pub fn exactly(
     wanted: &[ValueType],
     gives: ValueType,
 ) -> Result<ValueType, Untyped>
-    ensures { Answers (λ r. (ts.now ≡ wanted.now) × (r ≡ gives)) result }
+    ensures fits { Answers (λ r. (ts.now ≡ wanted.now) × (r ≡ gives)) result }
+    ensures told { Says (OtherTypes code.now.names ts.now wanted.now) result }
 {
     if same_types(ts, wanted) {
         return Ok(gives);
@@ -89,7 +92,8 @@ fn is_ordered(of: &ValueType) -> bool
 
 /// `==` and its opposite.
 pub fn equality(alloc: Global, code: &Code, ts: &[ValueType]) -> Result<ValueType, Untyped>
-    ensures { Answers (OpType (signature code.now) op.Equal ts.now) result }
+    ensures fits { Answers (OpType (signature code.now) op.Equal ts.now) result }
+    ensures told { Says (OperationMisfit (signature code.now) op.Equal ts.now) result }
 {
     let Some((a, b)) = two(ts) else {
         return Err(Untyped::Misfit(no_type(alloc, b"two arguments")?));
@@ -105,7 +109,8 @@ pub fn equality(alloc: Global, code: &Code, ts: &[ValueType]) -> Result<ValueTyp
 
 /// `<` and its like.
 pub fn order(alloc: Global, code: &Code, ts: &[ValueType]) -> Result<ValueType, Untyped>
-    ensures { Answers (OpType (signature code.now) op.Less ts.now) result }
+    ensures fits { Answers (OpType (signature code.now) op.Less ts.now) result }
+    ensures told { Says (OperationMisfit (signature code.now) op.Less ts.now) result }
 {
     let Some((a, b)) = two(ts) else {
         return Err(Untyped::Misfit(no_type(alloc, b"two arguments")?));
@@ -126,7 +131,8 @@ pub fn shows(
     ts: &[ValueType],
     gives: ValueType,
 ) -> Result<ValueType, Untyped>
-    ensures { Answers (Shows gives ts.now) result }
+    ensures fits { Answers (Shows gives ts.now) result }
+    ensures told { Says (OperationMisfit (signature code.now) op.Show ts.now) result }
 {
     let Some(a) = one(ts) else {
         return Err(Untyped::Misfit(no_type(alloc, b"one argument")?));
@@ -153,7 +159,8 @@ pub fn absent(
     ts: &[ValueType],
     of: &ValueType,
 ) -> Result<ValueType, Untyped>
-    ensures { Answers (OpType (signature code.now) (op.Absent of.now) ts.now) result }
+    ensures fits { Answers (OpType (signature code.now) (op.Absent of.now) ts.now) result }
+    ensures told { Says (OperationMisfit (signature code.now) (op.Absent of.now) ts.now) result }
 {
     if !ts.is_empty() {
         return Err(Untyped::Misfit(no_type(alloc, b"no argument")?));
@@ -166,7 +173,8 @@ pub fn absent(
 
 /// What is present.
 pub fn present(alloc: Global, code: &Code, ts: &[ValueType]) -> Result<ValueType, Untyped>
-    ensures { Answers (OpType (signature code.now) op.Present ts.now) result }
+    ensures fits { Answers (OpType (signature code.now) op.Present ts.now) result }
+    ensures told { Says (OperationMisfit (signature code.now) op.Present ts.now) result }
 {
     let Some(a) = one(ts) else {
         return Err(Untyped::Misfit(no_type(alloc, b"one argument")?));
@@ -181,7 +189,8 @@ pub fn empty(
     ts: &[ValueType],
     of: &ValueType,
 ) -> Result<ValueType, Untyped>
-    ensures { Answers (OpType (signature code.now) (op.Empty of.now) ts.now) result }
+    ensures fits { Answers (OpType (signature code.now) (op.Empty of.now) ts.now) result }
+    ensures told { Says (OperationMisfit (signature code.now) (op.Empty of.now) ts.now) result }
 {
     if !ts.is_empty() {
         return Err(Untyped::Misfit(no_type(alloc, b"no argument")?));
@@ -194,7 +203,8 @@ pub fn empty(
 
 /// An item before a list.
 pub fn cons(alloc: Global, code: &Code, ts: &[ValueType]) -> Result<ValueType, Untyped>
-    ensures { Answers (OpType (signature code.now) op.Cons ts.now) result }
+    ensures fits { Answers (OpType (signature code.now) op.Cons ts.now) result }
+    ensures told { Says (OperationMisfit (signature code.now) op.Cons ts.now) result }
 {
     let Some((a, list)) = two(ts) else {
         return Err(Untyped::Misfit(no_type(alloc, b"two arguments")?));

@@ -4,7 +4,9 @@ ghost use Rattle.ur_types.specs.declared.types.ValueType.TheVariants as ty;
 ghost use Rattle.ur_terms.specs.declared.term.Op.TheVariants as op;
 ghost use Rattle.ur_terms.specs.Types.{OpType, IsValueFor, field_kind, answer_type, args_of, form_type};
 ghost use Rattle.ur_code.specs.Fits.{signature};
-ghost use Rattle.ur_typing.specs.Answering.{Answers};
+ghost use Rattle.ur_typing.specs.Answering.{Answers, Says};
+ghost use Rattle.ur_typing.specs.Misfits.{OperationMisfit};
+ghost use Rattle.ur_typing.specs.Saying.{OtherTypes};
 ghost use Rattle.ur_typing.specs.Parts.{IsLast, Submits};
 
 use crate::arguments::{exactly, optional};
@@ -34,7 +36,8 @@ fn takes(
     argument: &Option<ValueType>,
     gives: ValueType,
 ) -> Result<ValueType, Untyped>
-    ensures { Answers (λ r. (ts.now ≡ args_of argument.now) × (r ≡ gives)) result }
+    ensures fits { Answers (λ r. (ts.now ≡ args_of argument.now) × (r ≡ gives)) result }
+    ensures told { Says (OtherTypes code.now.names ts.now (args_of argument.now)) result }
 {
     match argument {
         None => exactly(alloc, code, ts, &[], gives),
@@ -52,7 +55,8 @@ pub fn tagged(
     ts: &[ValueType],
     number: u32,
 ) -> Result<ValueType, Untyped>
-    ensures { Answers (OpType (signature code.now) (op.Tagged number) ts.now) result }
+    ensures fits { Answers (OpType (signature code.now) (op.Tagged number) ts.now) result }
+    ensures told { Says (OperationMisfit (signature code.now) (op.Tagged number) ts.now) result }
 {
     match code.variants.get(number as usize) {
         None => Err(Untyped::Misfit(no_type(alloc, b"a constructor")?)),
@@ -67,7 +71,8 @@ pub fn fail(
     ts: &[ValueType],
     of: &ValueType,
 ) -> Result<ValueType, Untyped>
-    ensures { Answers (OpType (signature code.now) (op.Fail of.now) ts.now) result }
+    ensures fits { Answers (OpType (signature code.now) (op.Fail of.now) ts.now) result }
+    ensures told { Says (OperationMisfit (signature code.now) (op.Fail of.now) ts.now) result }
 {
     let gives = copy_type(alloc, of)?;
     exactly(alloc, code, ts, &[ValueType::Xbody], gives)
@@ -75,7 +80,8 @@ pub fn fail(
 
 /// Text in a page.
 pub fn text(alloc: Global, code: &Code, ts: &[ValueType], text: &Text) -> Result<ValueType, Untyped>
-    ensures { Answers (OpType (signature code.now) (op.Text text.now) ts.now) result }
+    ensures fits { Answers (OpType (signature code.now) (op.Text text.now) ts.now) result }
+    ensures told { Says (OperationMisfit (signature code.now) (op.Text text.now) ts.now) result }
 {
     match str::from_utf8(text.as_slice()) {
         Err(_) => Err(Untyped::Misfit(no_type(alloc, b"text")?)),
@@ -136,7 +142,8 @@ pub fn input(
     name: Name,
     text: &Text,
 ) -> Result<ValueType, Untyped>
-    ensures { Answers (OpType (signature code.now) (op.Input kind name text.now) ts.now) result }
+    ensures fits { Answers (OpType (signature code.now) (op.Input kind name text.now) ts.now) result }
+    ensures told { Says (OperationMisfit (signature code.now) (op.Input kind name text.now) ts.now) result }
 {
     if !is_named(code, name, text) {
         return Err(Untyped::Misfit(no_type(alloc, b"the name of a field")?));
@@ -187,7 +194,8 @@ pub fn link(
     route: u32,
     args: u32,
 ) -> Result<ValueType, Untyped>
-    ensures { Answers (OpType (signature code.now) (op.Link route args) ts.now) result }
+    ensures fits { Answers (OpType (signature code.now) (op.Link route args) ts.now) result }
+    ensures told { Says (OperationMisfit (signature code.now) (op.Link route args) ts.now) result }
 {
     let Some(target) = code.handlers.routes.get(route as usize) else {
         return Err(Untyped::Misfit(no_type(alloc, b"a route")?));
@@ -240,7 +248,8 @@ pub fn submit(
     args: u32,
     unit: bool,
 ) -> Result<ValueType, Untyped>
-    ensures { Answers (OpType (signature code.now) (op.Submit route args unit) ts.now) result }
+    ensures fits { Answers (OpType (signature code.now) (op.Submit route args unit) ts.now) result }
+    ensures told { Says (OperationMisfit (signature code.now) (op.Submit route args unit) ts.now) result }
 {
     let Some(target) = code.handlers.routes.get(route as usize) else {
         return Err(Untyped::Misfit(no_type(alloc, b"a route")?));
@@ -278,7 +287,8 @@ pub fn ask(
     how: AnswerForm,
     site: u32,
 ) -> Result<ValueType, Untyped>
-    ensures { Answers (OpType (signature code.now) (op.Ask how site) ts.now) result }
+    ensures fits { Answers (OpType (signature code.now) (op.Ask how site) ts.now) result }
+    ensures told { Says (OperationMisfit (signature code.now) (op.Ask how site) ts.now) result }
 {
     let Some(query) = code.queries.get(site as usize) else {
         return Err(Untyped::Misfit(no_type(alloc, b"a query")?));
@@ -296,7 +306,8 @@ pub fn write(
     ts: &[ValueType],
     update: u32,
 ) -> Result<ValueType, Untyped>
-    ensures { Answers (OpType (signature code.now) (op.Write update) ts.now) result }
+    ensures fits { Answers (OpType (signature code.now) (op.Write update) ts.now) result }
+    ensures told { Says (OperationMisfit (signature code.now) (op.Write update) ts.now) result }
 {
     let Some(change) = code.changes.get(update as usize) else {
         return Err(Untyped::Misfit(no_type(alloc, b"a change")?));
@@ -312,7 +323,8 @@ pub fn next(
     ts: &[ValueType],
     sequence: u32,
 ) -> Result<ValueType, Untyped>
-    ensures { Answers (OpType (signature code.now) (op.Next sequence) ts.now) result }
+    ensures fits { Answers (OpType (signature code.now) (op.Next sequence) ts.now) result }
+    ensures told { Says (OperationMisfit (signature code.now) (op.Next sequence) ts.now) result }
 {
     if sequence as usize >= code.schema.sequences.len() {
         return Err(Untyped::Misfit(no_type(alloc, b"a sequence")?));
@@ -326,7 +338,8 @@ pub fn get_cookie(
     ts: &[ValueType],
     cookie: u32,
 ) -> Result<ValueType, Untyped>
-    ensures { Answers (OpType (signature code.now) (op.GetCookie cookie) ts.now) result }
+    ensures fits { Answers (OpType (signature code.now) (op.GetCookie cookie) ts.now) result }
+    ensures told { Says (OperationMisfit (signature code.now) (op.GetCookie cookie) ts.now) result }
 {
     let Some(cookie) = code.cookies.get(cookie as usize) else {
         return Err(Untyped::Misfit(no_type(alloc, b"a cookie")?));
@@ -341,7 +354,8 @@ pub fn set_cookie(
     ts: &[ValueType],
     cookie: u32,
 ) -> Result<ValueType, Untyped>
-    ensures { Answers (OpType (signature code.now) (op.SetCookie cookie) ts.now) result }
+    ensures fits { Answers (OpType (signature code.now) (op.SetCookie cookie) ts.now) result }
+    ensures told { Says (OperationMisfit (signature code.now) (op.SetCookie cookie) ts.now) result }
 {
     let Some(cookie) = code.cookies.get(cookie as usize) else {
         return Err(Untyped::Misfit(no_type(alloc, b"a cookie")?));

@@ -5,7 +5,8 @@ ghost use Rattle.ur_types.specs.declared.types.ValueType.TheVariants as ty;
 ghost use Rattle.ur_terms.specs.declared.term.Op.TheVariants as op;
 ghost use Rattle.ur_terms.specs.Types.{OpType};
 ghost use Rattle.ur_code.specs.Fits.{signature};
-ghost use Rattle.ur_typing.specs.Answering.{Answers};
+ghost use Rattle.ur_typing.specs.Answering.{Answers, Says};
+ghost use Rattle.ur_typing.specs.Misfits.{OperationMisfit};
 ghost use Rattle.ur_typing.specs.Fields as by_name;
 
 use crate::arguments::{one, two};
@@ -164,7 +165,8 @@ pub fn record(
     ts: &[ValueType],
     names: &List<Name>,
 ) -> Result<ValueType, Untyped>
-    ensures { Answers (OpType (signature code.now) (op.Record names.now) ts.now) result }
+    ensures fits { Answers (OpType (signature code.now) (op.Record names.now) ts.now) result }
+    ensures told { Says (OperationMisfit (signature code.now) (op.Record names.now) ts.now) result }
 {
     let names = names.as_slice();
     if names.len() != ts.len() || !are_distinct(names) {
@@ -182,7 +184,8 @@ pub fn projection(
     ts: &[ValueType],
     name: Name,
 ) -> Result<ValueType, Untyped>
-    ensures { Answers (OpType (signature code.now) (op.Project name) ts.now) result }
+    ensures fits { Answers (OpType (signature code.now) (op.Project name) ts.now) result }
+    ensures told { Says (OperationMisfit (signature code.now) (op.Project name) ts.now) result }
 {
     let Some(fields) = fields_of(ts) else {
         return Err(Untyped::Misfit(no_type(alloc, b"a record")?));
@@ -195,7 +198,8 @@ pub fn projection(
 
 /// Two records without a name in both.
 pub fn join(alloc: Global, code: &Code, ts: &[ValueType]) -> Result<ValueType, Untyped>
-    ensures { Answers (OpType (signature code.now) op.Join ts.now) result }
+    ensures fits { Answers (OpType (signature code.now) op.Join ts.now) result }
+    ensures told { Says (OperationMisfit (signature code.now) op.Join ts.now) result }
 {
     let Some((a, b)) = two(ts) else {
         return Err(Untyped::Misfit(no_type(alloc, b"two arguments")?));
@@ -235,7 +239,8 @@ pub fn copy_fields(alloc: Global, fields: &[TypeField]) -> Result<List<TypeField
 
 /// A record without a field.
 pub fn cut(alloc: Global, code: &Code, ts: &[ValueType], name: Name) -> Result<ValueType, Untyped>
-    ensures { Answers (OpType (signature code.now) (op.Cut name) ts.now) result }
+    ensures fits { Answers (OpType (signature code.now) (op.Cut name) ts.now) result }
+    ensures told { Says (OperationMisfit (signature code.now) (op.Cut name) ts.now) result }
 {
     let Some(fields) = fields_of(ts) else {
         return Err(Untyped::Misfit(no_type(alloc, b"a record")?));

@@ -2,7 +2,8 @@
 ghost use Rattle.std.specs.Prelude.{◌≡◌, ◌↔◌, [], IsTrue, All, MatchOption, Some};
 ghost use Rattle.ur_types.specs.declared.types.ValueType.TheVariants as ty;
 ghost use Rattle.ur_terms.specs.Types.{MakeUp, Holds, ElementStands};
-ghost use Rattle.ur_typing.specs.Answering.{Answers};
+ghost use Rattle.ur_typing.specs.Answering.{Answers, Says};
+ghost use Rattle.ur_typing.specs.Misfits.{UnlikePart, UnlikeFlow, UnlikeAll, UnlikeParts, UnlikePlace};
 ghost use Rattle.ur_typing.specs.Fields.{add_part, flow_before};
 ghost use Rattle.ur_typing.specs.Parts.{place_in};
 
@@ -41,7 +42,8 @@ fn with_part(
     part: &ValueType,
     behind: List<TypeField>,
 ) -> Result<List<TypeField>, Untyped>
-    ensures { Answers (λ fs. add_part part.now behind ≡ Some fs) result }
+    ensures fits { Answers (λ fs. add_part part.now behind ≡ Some fs) result }
+    ensures told { Says (UnlikePart code.now.names part.now behind) result }
 {
     if same_type(part, &ValueType::Xbody) {
         return Ok(behind);
@@ -66,7 +68,8 @@ fn as_form(of: &ValueType) -> Option<&List<TypeField>>
 
 /// The fields of the parts of a body or form.
 fn flow(alloc: Global, code: &Code, ts: &[ValueType]) -> Result<List<TypeField>, Untyped>
-    ensures { Answers (λ fs. flow_before ts.now [] ≡ Some fs) result }
+    ensures fits { Answers (λ fs. flow_before ts.now [] ≡ Some fs) result }
+    ensures told { Says (UnlikeFlow code.now.names ts.now) result }
 {
     let mut fields = List::new(alloc);
     let mut left = ts;
@@ -78,13 +81,15 @@ fn flow(alloc: Global, code: &Code, ts: &[ValueType]) -> Result<List<TypeField>,
 }
 
 fn form_of(alloc: Global, code: &Code, ts: &[ValueType]) -> Result<ValueType, Untyped>
-    ensures { Answers (λ r. (fs : List TypeField) × (r ≡ ty.Form fs) × MakeUp ts.now r) result }
+    ensures fits { Answers (λ r. (fs : List TypeField) × (r ≡ ty.Form fs) × MakeUp ts.now r) result }
+    ensures told { Says (UnlikeFlow code.now.names ts.now) result }
 {
     Ok(ValueType::Form(flow(alloc, code, ts)?))
 }
 
 fn alike(alloc: Global, code: &Code, ts: &[ValueType], of: &ValueType) -> Result<(), Untyped>
-    ensures { Answers (λ u. All (λ t. t ≡ of.now) ts.now) result }
+    ensures fits { Answers (λ u. All (λ t. t ≡ of.now) ts.now) result }
+    ensures told { Says (UnlikeAll code.now.names of.now ts.now) result }
 {
     if all_are(ts, of) {
         return Ok(());
@@ -100,7 +105,8 @@ fn makes_form(
     fields: &List<TypeField>,
 ) -> Result<(), Untyped>
     requires { of.now ≡ ty.Form fields.now }
-    ensures { Answers (λ u. MakeUp ts.now of.now) result }
+    ensures fits { Answers (λ u. MakeUp ts.now of.now) result }
+    ensures told { Says (UnlikeParts code.now.names of.now ts.now) result }
 {
     let made = form_of(alloc, code, ts)?;
     if same_type(&made, of) {
@@ -111,7 +117,8 @@ fn makes_form(
 
 /// The parts make up XML of this type.
 pub fn makes_up(alloc: Global, code: &Code, ts: &[ValueType], of: &ValueType) -> Result<(), Untyped>
-    ensures { Answers (λ u. MakeUp ts.now of.now) result }
+    ensures fits { Answers (λ u. MakeUp ts.now of.now) result }
+    ensures told { Says (UnlikeParts code.now.names of.now ts.now) result }
 {
     match of {
         ValueType::Int => Err(Untyped::Misfit(unlike(alloc, code, of, b"xml")?)),
@@ -131,7 +138,8 @@ pub fn makes_up(alloc: Global, code: &Code, ts: &[ValueType], of: &ValueType) ->
 
 /// What holds these parts in a body or form.
 pub fn holding(alloc: Global, code: &Code, ts: &[ValueType]) -> Result<ValueType, Untyped>
-    ensures { Answers (Holds ts.now) result }
+    ensures fits { Answers (Holds ts.now) result }
+    ensures told { Says (UnlikeFlow code.now.names ts.now) result }
 {
     if all_are(ts, &ValueType::Xbody) {
         return Ok(ValueType::Xbody);
@@ -157,7 +165,8 @@ fn place_of(tag: Tag) -> Place
 
 /// An element around these parts.
 pub fn element(alloc: Global, code: &Code, ts: &[ValueType], tag: Tag) -> Result<ValueType, Untyped>
-    ensures { Answers (ElementStands tag ts.now) result }
+    ensures fits { Answers (ElementStands tag ts.now) result }
+    ensures told { Says (UnlikePlace code.now.names (place_in tag) ts.now) result }
 {
     match place_of(tag) {
         Place::InFlow => holding(alloc, code, ts),

@@ -2,7 +2,8 @@
 ghost use Rattle.ur_terms.specs.declared.term.Op.TheVariants as op;
 ghost use Rattle.ur_terms.specs.Types.{OpType};
 ghost use Rattle.ur_code.specs.Fits.{signature};
-ghost use Rattle.ur_typing.specs.Answering.{Answers};
+ghost use Rattle.ur_typing.specs.Answering.{Answers, Says};
+ghost use Rattle.ur_typing.specs.Misfits.{OperationMisfit};
 
 use crate::arguments::{absent, cons, empty, equality, exactly, order, present, shows};
 use crate::deeds::{
@@ -18,7 +19,8 @@ use ur_types::{ValueType, copy_type};
 
 /// Two ints.
 fn ints(alloc: Global, code: &Code, ts: &[ValueType]) -> Result<ValueType, Untyped>
-    ensures { Answers (OpType (signature code.now) op.Add ts.now) result }
+    ensures fits { Answers (OpType (signature code.now) op.Add ts.now) result }
+    ensures told { Says (OperationMisfit (signature code.now) op.Add ts.now) result }
 {
     exactly(
         alloc,
@@ -36,7 +38,8 @@ fn literal(
     ts: &[ValueType],
     of: &ValueType,
 ) -> Result<ValueType, Untyped>
-    ensures { Answers (OpType (signature code.now) (op.Markup of.now) ts.now) result }
+    ensures fits { Answers (OpType (signature code.now) (op.Markup of.now) ts.now) result }
+    ensures told { Says (OperationMisfit (signature code.now) (op.Markup of.now) ts.now) result }
 {
     makes_up(alloc, code, ts, of)?;
     Ok(copy_type(alloc, of)?)
@@ -49,7 +52,8 @@ pub fn operation_type(
     operation: &Op,
     ts: &[ValueType],
 ) -> Result<ValueType, Untyped>
-    ensures { Answers (OpType (signature code.now) operation.now ts.now) result }
+    ensures fits { Answers (OpType (signature code.now) operation.now ts.now) result }
+    ensures told { Says (OperationMisfit (signature code.now) operation.now ts.now) result }
 {
     match operation {
         Op::Add => ints(alloc, code, ts),

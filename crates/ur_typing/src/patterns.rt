@@ -5,7 +5,9 @@ ghost use Rattle.ur_types.specs.declared.types.ValueType.TheVariants as ty;
 ghost use Rattle.ur_terms.specs.declared.term.Pattern.TheVariants as p;
 ghost use Rattle.ur_terms.specs.Types.{Binds, Cover, args_of};
 ghost use Rattle.ur_code.specs.Fits.{signature};
-ghost use Rattle.ur_typing.specs.Answering.{Answers};
+ghost use Rattle.ur_typing.specs.Answering.{Answers, Says};
+ghost use Rattle.ur_typing.specs.Misfits.{PatternMisfit};
+ghost use Rattle.ur_typing.specs.Saying.{two_types};
 ghost use Rattle.ur_typing.specs.Wanting.{wanted_pattern, patterns_in, HasEach};
 
 use crate::misfit::{Untyped, mismatch, no_type, unlike};
@@ -42,7 +44,8 @@ fn at(
     of: &ValueType,
     wanted: &ValueType,
 ) -> Result<List<ValueType>, Untyped>
-    ensures { Answers (λ bound. (of.now ≡ wanted.now) × (bound ≡ [])) result }
+    ensures fits { Answers (λ bound. (of.now ≡ wanted.now) × (bound ≡ [])) result }
+    ensures told { Says (λ said. said ≡ two_types code.now.names of.now wanted.now) result }
 {
     if !same_type(of, wanted) {
         return Err(Untyped::Misfit(mismatch(alloc, code, of, wanted)?));
@@ -51,7 +54,8 @@ fn at(
 }
 
 fn absent(alloc: Global, code: &Code, of: &ValueType) -> Result<List<ValueType>, Untyped>
-    ensures { Answers (Binds (signature code.now) p.Absent of.now) result }
+    ensures fits { Answers (Binds (signature code.now) p.Absent of.now) result }
+    ensures told { Says (PatternMisfit (signature code.now) p.Absent of.now) result }
 {
     match of {
         ValueType::Opt(_) => Ok(List::new(alloc)),
@@ -60,7 +64,8 @@ fn absent(alloc: Global, code: &Code, of: &ValueType) -> Result<List<ValueType>,
 }
 
 fn present(alloc: Global, code: &Code, of: &ValueType) -> Result<List<ValueType>, Untyped>
-    ensures { Answers (Binds (signature code.now) p.Present of.now) result }
+    ensures fits { Answers (Binds (signature code.now) p.Present of.now) result }
+    ensures told { Says (PatternMisfit (signature code.now) p.Present of.now) result }
 {
     match of {
         ValueType::Opt(held) => Ok(only(alloc, held.get())?),
@@ -69,7 +74,8 @@ fn present(alloc: Global, code: &Code, of: &ValueType) -> Result<List<ValueType>
 }
 
 fn empty(alloc: Global, code: &Code, of: &ValueType) -> Result<List<ValueType>, Untyped>
-    ensures { Answers (Binds (signature code.now) p.Empty of.now) result }
+    ensures fits { Answers (Binds (signature code.now) p.Empty of.now) result }
+    ensures told { Says (PatternMisfit (signature code.now) p.Empty of.now) result }
 {
     match of {
         ValueType::Many(_) => Ok(List::new(alloc)),
@@ -78,7 +84,8 @@ fn empty(alloc: Global, code: &Code, of: &ValueType) -> Result<List<ValueType>, 
 }
 
 fn cons(alloc: Global, code: &Code, of: &ValueType) -> Result<List<ValueType>, Untyped>
-    ensures { Answers (Binds (signature code.now) p.Cons of.now) result }
+    ensures fits { Answers (Binds (signature code.now) p.Cons of.now) result }
+    ensures told { Says (PatternMisfit (signature code.now) p.Cons of.now) result }
 {
     match of {
         ValueType::Many(item) => {
@@ -105,7 +112,8 @@ fn tagged(
     of: &ValueType,
     number: u32,
 ) -> Result<List<ValueType>, Untyped>
-    ensures { Answers (Binds (signature code.now) (p.Tagged number) of.now) result }
+    ensures fits { Answers (Binds (signature code.now) (p.Tagged number) of.now) result }
+    ensures told { Says (PatternMisfit (signature code.now) (p.Tagged number) of.now) result }
 {
     let Some(variant) = code.variants.get(number as usize) else {
         return Err(Untyped::Misfit(no_type(alloc, b"a constructor")?));
@@ -124,7 +132,8 @@ pub fn bound_by(
     pattern: &Pattern,
     of: &ValueType,
 ) -> Result<List<ValueType>, Untyped>
-    ensures { Answers (Binds (signature code.now) pattern.now of.now) result }
+    ensures fits { Answers (Binds (signature code.now) pattern.now of.now) result }
+    ensures told { Says (PatternMisfit (signature code.now) pattern.now of.now) result }
 {
     match pattern {
         Pattern::Any => Ok(only(alloc, of)?),

@@ -137,6 +137,10 @@ module _ (sig : Signature) (env : List ValueType) where
   first_fits a r (y ∷ bs) (suc i) b begun some e all =
       subst (λ c. BranchFits sig env a c r) (sym e) (All-get_or (λ c. BranchFits sig env a c r) (y ∷ take i bs) 0 b (omega arith) all)
 
+  pub first_given : (a : ValueType) (bs cs : List Branch) (first : Branch) → bs ≡ cs → 0 < length bs → first ≡ get_or bs 0 first → (r : ValueType) × BranchesFit sig env a cs r
+      → (r : ValueType) × BranchFits sig env a first r
+  first_given a bs cs first is h f k = (k.0, branch_at a k.0 bs 0 first h f (subst (All (λ c. BranchFits sig env a c k.0)) (sym is) k.1.1))
+
   pub later_given : (a made : ValueType) (bs cs : List Branch) (i : ℕ) (first b : Branch) → bs ≡ cs → 0 < length bs → first ≡ get_or bs 0 first
       → BranchFits sig env a first made → i < length bs → b ≡ get_or bs i b → (r : ValueType) × BranchesFit sig env a cs r → (u : Unit {0}) × BranchFits sig env a b made
   later_given a made bs cs i first b is h f one lt g k =

@@ -1,4 +1,5 @@
 pub mod Laws
+pub mod Misfits
 pub mod Scope
 pub mod Terms
 pub mod Verifying

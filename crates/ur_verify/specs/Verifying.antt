@@ -4,12 +4,14 @@ use Rattle.ur_base.specs.declared.refusal.Refusal.{Refusal}
 use Rattle.ur_code.specs.declared.code.Code.{Code}
 use Rattle.ur_code.specs.Fits.{Fits}
 use Rattle.ur_typing.specs.Saying.{IsFound}
+use Rattle.ur_verify.specs.Misfits.{CodeMisfit}
 
--- The code does not fit, and two texts that differ say what was found, a type or one of two words, and what was wanted; this
--- stands at no place of the source.
+-- The code does not fit. At a place of the code where its rule is broken the two texts are those of what was found and of
+-- what the rule wants there, and they differ. The refusal stands at no place of the source.
 pub record ExplainsUnfit (code : Code) (r : Refusal) : Type 0 where
   pub code_is : r.code ≡ 19
   pub unfit : ¬ Fits code
+  pub place : CodeMisfit code (r.left, r.right)
   pub differ : r.left ≢ r.right
   pub found : ∥ IsFound r.left ∥₁
   pub no_place : r.span ≡ record { file = 0; from = 0; to = 0 }

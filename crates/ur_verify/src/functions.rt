@@ -3,7 +3,8 @@ ghost use Rattle.std.specs.Prelude.{◌≡◌, ◌↔◌, IsTrue, IsUtf8, All};
 ghost use Rattle.ur_sql.specs.Typing.{QueryFits, ChangeFits};
 ghost use Rattle.ur_terms.specs.Types.{FitsFunction};
 ghost use Rattle.ur_code.specs.Fits.{signature};
-ghost use Rattle.ur_typing.specs.Answering.{Answers};
+ghost use Rattle.ur_typing.specs.Answering.{Answers, Says};
+ghost use Rattle.ur_verify.specs.Misfits.{ChangesMisfit, FunctionMisfit, FunctionsMisfit, QueriesMisfit, TablesMisfit};
 
 use crate::environment::Environment;
 use crate::infer::type_of;
@@ -18,7 +19,8 @@ use ur_values::TableShape;
 
 /// A function's body has its result's type.
 fn function_fits(alloc: Global, code: &Code, function: &Function) -> Result<(), Untyped>
-    ensures { Answers (λ u. FitsFunction (signature code.now) function.now) result }
+    ensures fits { Answers (λ u. FitsFunction (signature code.now) function.now) result }
+    ensures told { Says (FunctionMisfit (signature code.now) function.now) result }
 {
     let env = Environment::Parameters(function.params.as_slice());
     let found = type_of(alloc, code, &env, &function.body)?;
@@ -29,7 +31,8 @@ fn function_fits(alloc: Global, code: &Code, function: &Function) -> Result<(), 
 }
 
 pub fn functions_fit(alloc: Global, code: &Code) -> Result<(), Untyped>
-    ensures { Answers (λ u. All (FitsFunction (signature code.now)) code.now.functions) result }
+    ensures fits { Answers (λ u. All (FitsFunction (signature code.now)) code.now.functions) result }
+    ensures told { Says (FunctionsMisfit code.now) result }
 {
     for function in code.functions.as_slice() {
         function_fits(alloc, code, function)?;
@@ -38,7 +41,8 @@ pub fn functions_fit(alloc: Global, code: &Code) -> Result<(), Untyped>
 }
 
 pub fn queries_fit(alloc: Global, code: &Code) -> Result<(), Untyped>
-    ensures { Answers (λ u. All (QueryFits code.now.schema) code.now.queries) result }
+    ensures fits { Answers (λ u. All (QueryFits code.now.schema) code.now.queries) result }
+    ensures told { Says (QueriesMisfit code.now) result }
 {
     for query in code.queries.as_slice() {
         if !query_fits(alloc, &code.schema, query)? {
@@ -49,7 +53,8 @@ pub fn queries_fit(alloc: Global, code: &Code) -> Result<(), Untyped>
 }
 
 pub fn changes_fit(alloc: Global, code: &Code) -> Result<(), Untyped>
-    ensures { Answers (λ u. All (ChangeFits code.now.schema) code.now.changes) result }
+    ensures fits { Answers (λ u. All (ChangeFits code.now.schema) code.now.changes) result }
+    ensures told { Says (ChangesMisfit code.now) result }
 {
     for change in code.changes.as_slice() {
         if !change_fits(alloc, &code.schema, change)? {
@@ -69,7 +74,8 @@ fn is_named(table: &TableShape) -> bool
 }
 
 pub fn tables_fit(alloc: Global, code: &Code) -> Result<(), Untyped>
-    ensures { Answers (λ u. All (λ shape. IsUtf8 shape.name) code.now.schema.tables) result }
+    ensures fits { Answers (λ u. All (λ shape. IsUtf8 shape.name) code.now.schema.tables) result }
+    ensures told { Says (TablesMisfit code.now) result }
 {
     for table in code.schema.tables.as_slice() {
         if !is_named(table) {

@@ -6,7 +6,9 @@ ghost use Rattle.ur_terms.specs.declared.term.Term.TheVariants as t;
 ghost use Rattle.ur_terms.specs.Types.{HasType, IsXml};
 ghost use Rattle.ur_values.specs.Values.{IsInt};
 ghost use Rattle.ur_code.specs.Fits.{signature};
-ghost use Rattle.ur_typing.specs.Answering.{Answers};
+ghost use Rattle.ur_typing.specs.Answering.{Answers, Says};
+ghost use Rattle.ur_typing.specs.Misfits.{NoText};
+ghost use Rattle.ur_verify.specs.Misfits.{BranchMisfit, BranchesMisfit, NoList, NoVariable, TermMisfit, TermsMisfit, UnlikeBranch, UnlikeCall, UnlikeTerm, UnlikeXml};
 ghost use Rattle.ur_verify.specs.Scope.{types_in};
 ghost use Rattle.ur_verify.specs.Terms.{HaveAll, BranchFits, BranchesFit};
 
@@ -29,7 +31,8 @@ pub fn type_of(
     env: &Environment,
     term: &Term,
 ) -> Result<ValueType, Untyped>
-    ensures { Answers (HasType (signature code.now) (types_in env.now) term.now) result }
+    ensures fits { Answers (HasType (signature code.now) (types_in env.now) term.now) result }
+    ensures told { Says (TermMisfit (signature code.now) (types_in env.now) term.now) result }
 {
     match term {
         Term::Variable(place) => variable_type(alloc, env, *place),
@@ -46,7 +49,8 @@ pub fn type_of(
 }
 
 fn variable_type(alloc: Global, env: &Environment, place: u32) -> Result<ValueType, Untyped>
-    ensures { Answers (λ r. slice_get (types_in env.now) place ≡ Some r) result }
+    ensures fits { Answers (λ r. slice_get (types_in env.now) place ≡ Some r) result }
+    ensures told { Says (NoVariable (types_in env.now) place) result }
 {
     match variable(env, place as usize) {
         None => Err(Untyped::Misfit(no_type(alloc, b"a variable")?)),
@@ -55,13 +59,15 @@ fn variable_type(alloc: Global, env: &Environment, place: u32) -> Result<ValueTy
 }
 
 fn int_type(_value: i64) -> Result<ValueType, Untyped>
-    ensures { Answers (λ r. (r ≡ ty.Int) × IsInt _value) result }
+    ensures fits { Answers (λ r. (r ≡ ty.Int) × IsInt _value) result }
+    ensures told { Says (λ said. ⊥) result }
 {
     Ok(ValueType::Int)
 }
 
 fn text_type(alloc: Global, text: &Text) -> Result<ValueType, Untyped>
-    ensures { Answers (λ r. (r ≡ ty.Str) × IsUtf8 text.now) result }
+    ensures fits { Answers (λ r. (r ≡ ty.Str) × IsUtf8 text.now) result }
+    ensures told { Says (NoText text.now) result }
 {
     match str::from_utf8(text.as_slice()) {
         Err(_) => Err(Untyped::Misfit(no_type(alloc, b"text")?)),
@@ -77,7 +83,8 @@ fn types_of(
     env: &Environment,
     terms: &List<Term>,
 ) -> Result<List<ValueType>, Untyped>
-    ensures { Answers (HaveAll (signature code.now) (types_in env.now) terms.now) result }
+    ensures fits { Answers (HaveAll (signature code.now) (types_in env.now) terms.now) result }
+    ensures told { Says (TermsMisfit (signature code.now) (types_in env.now) terms.now) result }
 {
     let mut types = List::new(alloc);
     let terms = terms.as_slice();
@@ -96,7 +103,8 @@ fn make_type(
     args: &List<Term>,
     op: &Op,
 ) -> Result<ValueType, Untyped>
-    ensures { Answers (HasType (signature code.now) (types_in env.now) (t.Make op.now args.now)) result }
+    ensures fits { Answers (HasType (signature code.now) (types_in env.now) (t.Make op.now args.now)) result }
+    ensures told { Says (TermMisfit (signature code.now) (types_in env.now) (t.Make op.now args.now)) result }
 {
     let types = types_of(alloc, code, env, args)?;
     operation_type(alloc, code, op, types.as_slice())
@@ -109,7 +117,8 @@ fn called(
     types: &[ValueType],
     number: u32,
 ) -> Result<ValueType, Untyped>
-    ensures { Answers (λ r. slice_get (signature code.now).functions number ≡ Some (types.now, r)) result }
+    ensures fits { Answers (λ r. slice_get (signature code.now).functions number ≡ Some (types.now, r)) result }
+    ensures told { Says (UnlikeCall (signature code.now) number types.now) result }
 {
     let Some(function) = code.functions.get(number as usize) else {
         return Err(Untyped::Misfit(no_type(alloc, b"a function")?));
@@ -128,7 +137,8 @@ fn call_type(
     args: &List<Term>,
     number: u32,
 ) -> Result<ValueType, Untyped>
-    ensures { Answers (HasType (signature code.now) (types_in env.now) (t.Call number args.now)) result }
+    ensures fits { Answers (HasType (signature code.now) (types_in env.now) (t.Call number args.now)) result }
+    ensures told { Says (TermMisfit (signature code.now) (types_in env.now) (t.Call number args.now)) result }
 {
     let types = types_of(alloc, code, env, args)?;
     called(alloc, code, types.as_slice(), number)
@@ -142,7 +152,8 @@ fn let_type(
     args: &List<Term>,
     body: &Term,
 ) -> Result<ValueType, Untyped>
-    ensures { Answers (HasType (signature code.now) (types_in env.now) (t.Let args.now body.now)) result }
+    ensures fits { Answers (HasType (signature code.now) (types_in env.now) (t.Let args.now body.now)) result }
+    ensures told { Says (TermMisfit (signature code.now) (types_in env.now) (t.Let args.now body.now)) result }
 {
     let types = types_of(alloc, code, env, args)?;
     type_of(
@@ -162,7 +173,8 @@ fn of_type(
     term: &Term,
     wanted: &ValueType,
 ) -> Result<(), Untyped>
-    ensures { Answers (λ u. HasType (signature code.now) (types_in env.now) term.now wanted.now) result }
+    ensures fits { Answers (λ u. HasType (signature code.now) (types_in env.now) term.now wanted.now) result }
+    ensures told { Says (UnlikeTerm (signature code.now) (types_in env.now) term.now wanted.now) result }
 {
     let found = type_of(alloc, code, env, term)?;
     if same_type(&found, wanted) {
@@ -180,7 +192,8 @@ fn if_type(
     yes: &Term,
     no: &Term,
 ) -> Result<ValueType, Untyped>
-    ensures { Answers (HasType (signature code.now) (types_in env.now) (t.If test.now yes.now no.now)) result }
+    ensures fits { Answers (HasType (signature code.now) (types_in env.now) (t.If test.now yes.now no.now)) result }
+    ensures told { Says (TermMisfit (signature code.now) (types_in env.now) (t.If test.now yes.now no.now)) result }
 {
     of_type(alloc, code, env, test, &ValueType::Bool)?;
     let of = type_of(alloc, code, env, yes)?;
@@ -197,7 +210,8 @@ fn branch_type(
     branch: &Branch,
     of: &ValueType,
 ) -> Result<ValueType, Untyped>
-    ensures { Answers (BranchFits (signature code.now) (types_in env.now) of.now branch.now) result }
+    ensures fits { Answers (BranchFits (signature code.now) (types_in env.now) of.now branch.now) result }
+    ensures told { Says (BranchMisfit (signature code.now) (types_in env.now) of.now branch.now) result }
 {
     let bound = bound_by(alloc, code, &branch.pattern, of)?;
     type_of(
@@ -216,11 +230,12 @@ fn branches_type(
     branches: &List<Branch>,
     of: &ValueType,
 ) -> Result<ValueType, Untyped>
-    ensures { Answers (BranchesFit (signature code.now) (types_in env.now) of.now branches.now) result }
+    ensures fits { Answers (BranchesFit (signature code.now) (types_in env.now) of.now branches.now) result }
+    ensures told { Says (BranchesMisfit (signature code.now) (types_in env.now) of.now branches.now) result }
 {
     let branches = branches.as_slice();
     if branches.is_empty() {
-        return Err(Untyped::Misfit(no_type(alloc, b"a branch")?));
+        return Err(Untyped::Misfit(unlike(alloc, code, of, b"a branch for each value")?));
     }
     let made = branch_type(alloc, code, env, &branches[0], of)?;
     for i in 1..branches.len() {
@@ -239,7 +254,8 @@ fn branch_is(
     of: &ValueType,
     wanted: &ValueType,
 ) -> Result<(), Untyped>
-    ensures { Answers (λ u. BranchFits (signature code.now) (types_in env.now) of.now branch.now wanted.now) result }
+    ensures fits { Answers (λ u. BranchFits (signature code.now) (types_in env.now) of.now branch.now wanted.now) result }
+    ensures told { Says (UnlikeBranch (signature code.now) (types_in env.now) of.now branch.now wanted.now) result }
 {
     let made = branch_type(alloc, code, env, branch, of)?;
     if same_type(&made, wanted) {
@@ -256,7 +272,8 @@ fn case_type(
     of: &Term,
     branches: &List<Branch>,
 ) -> Result<ValueType, Untyped>
-    ensures { Answers (HasType (signature code.now) (types_in env.now) (t.Case of.now branches.now)) result }
+    ensures fits { Answers (HasType (signature code.now) (types_in env.now) (t.Case of.now branches.now)) result }
+    ensures told { Says (TermMisfit (signature code.now) (types_in env.now) (t.Case of.now branches.now)) result }
 {
     let found = type_of(alloc, code, env, of)?;
     if !covers(code, branches.as_slice(), &found) {
@@ -286,7 +303,8 @@ fn is_xml(of: &ValueType) -> bool
 
 /// The item of a list's type.
 fn item_of(alloc: Global, code: &Code, rows: &ValueType) -> Result<List<ValueType>, Untyped>
-    ensures { Answers (λ ts. (a : ValueType) × (rows.now ≡ ty.Many a) × (ts ≡ a ∷ [])) result }
+    ensures fits { Answers (λ ts. (a : ValueType) × (rows.now ≡ ty.Many a) × (ts ≡ a ∷ [])) result }
+    ensures told { Says (NoList (signature code.now) rows.now) result }
 {
     match rows {
         ValueType::Many(item) => {
@@ -306,7 +324,8 @@ fn xml_type(
     env: &Environment,
     body: &Term,
 ) -> Result<ValueType, Untyped>
-    ensures { Answers (λ r. HasType (signature code.now) (types_in env.now) body.now r × IsXml r) result }
+    ensures fits { Answers (λ r. HasType (signature code.now) (types_in env.now) body.now r × IsXml r) result }
+    ensures told { Says (UnlikeXml (signature code.now) (types_in env.now) body.now) result }
 {
     let of = type_of(alloc, code, env, body)?;
     if is_xml(&of) {
@@ -323,7 +342,8 @@ fn each_type(
     rows: &Term,
     body: &Term,
 ) -> Result<ValueType, Untyped>
-    ensures { Answers (HasType (signature code.now) (types_in env.now) (t.Each rows.now body.now)) result }
+    ensures fits { Answers (HasType (signature code.now) (types_in env.now) (t.Each rows.now body.now)) result }
+    ensures told { Says (TermMisfit (signature code.now) (types_in env.now) (t.Each rows.now body.now)) result }
 {
     let found = type_of(alloc, code, env, rows)?;
     let item = item_of(alloc, code, &found)?;

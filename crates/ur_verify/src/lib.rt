@@ -8,5 +8,5 @@ mod law;
 mod routes;
 mod verified;
 
-pub use law::types_are_unique;
+pub use law::{misfits_are_causes, types_are_unique};
 pub use verified::{Verified, verify};

@@ -2,7 +2,8 @@
 ghost use Rattle.std.specs.Prelude.{◌≡◌, length};
 ghost use Rattle.std.specs.List.{AllZip};
 ghost use Rattle.ur_code.specs.Fits.{FitsRoute};
-ghost use Rattle.ur_typing.specs.Answering.{Answers};
+ghost use Rattle.ur_typing.specs.Answering.{Answers, Says};
+ghost use Rattle.ur_verify.specs.Misfits.{RouteMisfit, RoutesMisfit};
 
 use std::alloc::Global;
 use ur_code::Code;
@@ -12,7 +13,8 @@ use ur_typing::{Untyped, mismatch, no_type, route_types, unlike_these};
 
 /// The function takes the route's arguments and gives a page, and a route that answers GET has no form.
 fn target_fits(alloc: Global, code: &Code, route: &Route, target: u32) -> Result<(), Untyped>
-    ensures { Answers (λ u. FitsRoute code.now route.now target) result }
+    ensures fits { Answers (λ u. FitsRoute code.now route.now target) result }
+    ensures told { Says (RouteMisfit code.now route.now target) result }
 {
     let Some(function) = code.functions.get(target as usize) else {
         return Err(Untyped::Misfit(no_type(alloc, b"a function")?));
@@ -36,7 +38,8 @@ fn target_fits(alloc: Global, code: &Code, route: &Route, target: u32) -> Result
 }
 
 pub fn routes_fit(alloc: Global, code: &Code) -> Result<(), Untyped>
-    ensures { Answers (λ u. AllZip (FitsRoute code.now) code.now.handlers.routes code.now.targets) result }
+    ensures fits { Answers (λ u. AllZip (FitsRoute code.now) code.now.handlers.routes code.now.targets) result }
+    ensures told { Says (RoutesMisfit code.now) result }
 {
     let routes = code.handlers.routes.as_slice();
     let targets = code.targets.as_slice();

@@ -2,7 +2,8 @@
 ghost use Rattle.std.specs.Prelude.{◌≡◌, ◌≢◌, IfOk};
 ghost use Rattle.ur_base.specs.Stopping.{IfRefused};
 ghost use Rattle.ur_code.specs.Fits.{Fits};
-ghost use Rattle.ur_typing.specs.Answering.{Answers};
+ghost use Rattle.ur_typing.specs.Answering.{Answers, Says};
+ghost use Rattle.ur_verify.specs.Misfits.{CodeMisfit};
 ghost use Rattle.ur_typing.specs.Saying.{IsFound};
 ghost use Rattle.ur_verify.specs.Verifying.{ExplainsUnfit};
 
@@ -66,7 +67,8 @@ pub fn verify(alloc: Global, code: Code) -> Result<Verified, Stop>
 }
 
 fn code_fits(alloc: Global, code: &Code) -> Result<(), Untyped>
-    ensures { Answers (λ u. Fits code.now) result }
+    ensures fits { Answers (λ u. Fits code.now) result }
+    ensures told { Says (CodeMisfit code.now) result }
 {
     functions_fit(alloc, code)?;
     queries_fit(alloc, code)?;

@@ -8,10 +8,10 @@ use Rattle.ur_code.specs.RowType.{kind_type, query_type}
 use Rattle.ur_typing.proofs.Declared.{mapped_at, exactly_as, ask_at}
 use Rattle.ur_typing.proofs.deeds.ask.Goals as goal
 
-pub returns : goal.returns
-returns c =
+pub returns-clause-fits : goal.returns-clause-fits
+returns-clause-fits c =
     ask_at (signature c.args.code.now) c.args.how c.args.site (query_type c.in-Some.query.now).0 (query_type c.in-Some.query.now).1 c.args.ts.now c.exactly.result
     (mapped_at query_type c.args.code.now.queries c.args.site c.in-Some.query.now (sym c.get.ensures.value ∙ ap option_copied c.in-Some.is))
     (exactly_as c.args.ts.now _ _ _ _ c.exactly.result
     (c.as_slice-2.ensures ∙ c.in_ok-params.ensures ∙ ap (map kind_type) c.as_slice.ensures)
-    (c.in_ok-gives.ensures ∙ ap (answer_type c.args.how) c.in_ok-row.ensures) c.exactly.ensures)
+    (c.in_ok-gives.ensures ∙ ap (answer_type c.args.how) c.in_ok-row.ensures) c.exactly.ensures.fits)

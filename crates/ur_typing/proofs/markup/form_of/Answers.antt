@@ -3,8 +3,8 @@ use Rattle.ur_typing.proofs.Flows.{form_made, form_flow}
 use Rattle.ur_typing.proofs.Replies.{refused_exit}
 use Rattle.ur_typing.proofs.markup.form_of.Goals as goal
 
-pub returns : goal.returns
-returns c = form_made c.args.ts.now c.in_ok-flow.field-0 c.in_ok-flow.ensures
+pub returns-clause-fits : goal.returns-clause-fits
+returns-clause-fits c = form_made c.args.ts.now c.in_ok-flow.field-0 c.in_ok-flow.ensures.fits
 
-pub returns-in_err-flow : goal.returns-in_err-flow
-returns-in_err-flow c = refused_exit c.from_residual.result c.in_err-flow.field-0.0 c.from_residual.ensures.1 (form_flow c.args.ts.now) c.in_err-flow.ensures
+pub returns-in_err-flow-clause-fits : goal.returns-in_err-flow-clause-fits
+returns-in_err-flow-clause-fits c = refused_exit c.from_residual.result c.in_err-flow.field-0.0 c.from_residual.ensures.1 (form_flow c.args.ts.now) c.in_err-flow.ensures.fits
