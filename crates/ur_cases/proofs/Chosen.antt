@@ -75,10 +75,6 @@ some-branch [] (Some c) h = absurd (cc)
 some-branch (p ∷ ps) o h = (refl, h)
 
 -- a constructor that is missing, or any value
-pub or-any-some : (ps : List Pattern) (c : Pattern) → or_any ps (Some c) ≡ Some c
-or-any-some [] c = refl
-or-any-some (p ∷ ps) c = refl
-
 -- of two constructors one is missing where there is no branch
 pub two-missing : (ps : List Pattern) (c d : Pattern) → missing_of (Some (c ∷ d ∷ [])) ps ≡ first_missing (c ∷ d ∷ []) ps
 two-missing [] c d = refl
@@ -281,5 +277,3 @@ pub ruleset repeating = (once-past)
 pub ruleset lasts = (last-is, truth-called)
 
 pub ruleset two_missing = (two-missing)
-
-pub ruleset any_value = (or-any-some)

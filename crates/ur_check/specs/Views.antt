@@ -88,7 +88,7 @@ ModulesFault p b names modules r = (z : Sofar) → Sees p 0 z → ModulesHaveFau
 
 -- ---- the source
 
-pub record IsSource (names : List (List ℕ)) (w : Held) (b : HeldBodies) (r : Routes) (app : Typed) : Type 0 where
+pub record IsSourceOf (names : List (List ℕ)) (w : Held) (b : HeldBodies) (r : Routes) (app : Typed) : Type 0 where
   pub modules : app.modules ≡ names
   pub fields : app.names ≡ w.env.fields
   pub datatypes : app.datatypes ≡ w.datatypes

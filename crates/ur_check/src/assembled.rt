@@ -3,7 +3,7 @@ ghost use Rattle.std.specs.Prelude.{◌≡◌, ℕ, [], map, Some, IfOk, OnOk};
 ghost use Rattle.ur_typed.specs.Declaring.{Sofar};
 ghost use Rattle.ur_checked.specs.Made.{function_head, IsMadeOf};
 ghost use Rattle.ur_heads.specs.Views.{Sees, function_in};
-ghost use Rattle.ur_check.specs.Views.{bodies_in, IsSource, Routed};
+ghost use Rattle.ur_check.specs.Views.{bodies_in, IsSourceOf, Routed};
 
 use crate::bodies::Bodies;
 use std::alloc::Global;
@@ -251,7 +251,7 @@ fn source(
     bodies: Bodies,
     routes: Routes,
 ) -> Result<Typed, Memory>
-    ensures { IfOk result (IsSource names.now world bodies routes) }
+    ensures { IfOk result (IsSourceOf names.now world bodies routes) }
 {
     let mut world = world;
     let Bodies {

@@ -16,12 +16,15 @@ use Rattle.ur_rows.specs.Made as made
 use Rattle.ur_type_words.specs.FieldNames.{capital}
 use Rattle.ur_type_words.specs.Places.{in_body, in_table, in_form, inside, fields_found}
 use Rattle.ur_type_words.specs.QueryRow.{query_row}
-use Rattle.ur_type_words.specs.Text.{type_text}
+use Rattle.ur_type_words.specs.Text.{type_text, row_text}
 
 -- ---- how types are written
 
 record_text : type_text [] (made.record_of (made.field (label.Literal (codes "A")) ty.Int ∷ made.field (label.Literal (codes "B")) made.unit ∷ [])) ≡ codes "$[A = (int); B = ($[]); ]"
 record_text = refl
+
+row_alone : row_text [] (made.field (label.Literal (codes "A")) ty.Int ∷ []) ≡ codes "[A = (int); ]"
+row_alone = refl
 
 arrow_text : type_text (codes "color" ∷ []) (made.arrow_of (made.option_of (ty.Datatype 0)) (made.transaction_of ty.Page)) ≡ codes "(option (color)) -> (transaction (page))"
 arrow_text = refl

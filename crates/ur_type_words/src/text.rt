@@ -16,11 +16,12 @@ pub fn type_text(alloc: Global, names: &[Text], of: &NormalType) -> Result<Text,
     Ok(text)
 }
 
-/// A row as text.
+/// A row as text, in brackets.
 pub fn row_text(alloc: Global, names: &[Text], row: &[Part]) -> Result<Text, Memory>
     ensures { IfOk result (λ text. text ≡ texts.row_text names.now row.now) }
 {
     let mut text = List::new(alloc);
+    text.extend_from_slice(b"[")?;
     write_parts(alloc, &mut text, names, row)?;
     Ok(text)
 }
@@ -92,7 +93,7 @@ fn write_row(
     word: &[u8],
     row: &List<Part>,
 ) -> Result<(), Memory>
-    ensures { OnOk result (out.new ≡ out.old ++ (word.now ++ texts.row_text names.now row.now)) }
+    ensures { OnOk result (out.new ≡ out.old ++ (word.now ++ texts.inner_text names.now row.now)) }
 {
     out.extend_from_slice(word)?;
     write_parts(alloc, out, names, row.as_slice())?;
@@ -102,7 +103,7 @@ fn write_row(
 /// Writes the parts of a row and a closing bracket.
 #[cycle(writing)]
 fn write_parts(alloc: Global, out: &mut Text, names: &[Text], parts: &[Part]) -> Result<(), Memory>
-    ensures { OnOk result (out.new ≡ out.old ++ texts.row_text names.now parts.now) }
+    ensures { OnOk result (out.new ≡ out.old ++ texts.inner_text names.now parts.now) }
 {
     for i in 0..parts.len() {
         write_part(alloc, out, names, &parts[i])?;

@@ -1,5 +1,5 @@
 -- The typed source of a project.
-use Rattle.std.specs.Prelude.{◌≡◌, ◌≢◌, ◌+◌, ℕ, Bool, true, false, List, [], ◌∷◌, ◌++◌, map, length, Option, Some, None, slice_get, IsTrue, Contains, AllPairs, filter_map}
+use Rattle.std.specs.Prelude.{◌≡◌, ◌+◌, ℕ, Bool, true, false, List, [], ◌∷◌, ◌++◌, map, length, Option, Some, None, slice_get}
 use Rattle.ur_syntax.specs.declared.con.Con.{Con}
 use Rattle.ur_syntax.specs.declared.con.ConEnv.{ConEnv}
 use Rattle.ur_syntax.specs.declared.con.ConEntry.{ConEntry}
@@ -10,9 +10,7 @@ use Rattle.ur_syntax.specs.declared.con.ConParam.{ConParam as WrittenConParam}
 use Rattle.ur_syntax.specs.declared.con.ConParam.TheVariants as written_con
 use Rattle.ur_syntax.specs.declared.kind.Kind.{Kind}
 use Rattle.ur_syntax.specs.declared.kind.Kind.TheVariants as kind
-use Rattle.ur_syntax.specs.Names.{looked_up, name_text}
-use Rattle.ur_syntax.specs.Kinds.{is_kind, is_plain}
-use Rattle.ur_syntax.specs.HasKind.{scope_in}
+use Rattle.ur_syntax.specs.Names.{name_text}
 use Rattle.ur_syntax.specs.declared.decl.Variant.{Variant as WrittenVariant}
 use Rattle.ur_syntax.specs.declared.decl.Constraint.{Constraint}
 use Rattle.ur_syntax.specs.declared.decl.FunDef.{FunDef}
@@ -40,7 +38,7 @@ use Rattle.ur_tree.specs.Heads.{declared_of}
 use Rattle.ur_sqltable.specs.declared.keys.SqlKey.{SqlKey}
 use Rattle.ur_rows.specs.declared.normal.Normal.TheVariants as normal
 use Rattle.ur_sqltable.specs.Table.{IsTable}
-use Rattle.ur_type_conditions.specs.Names.{Local, Globals, Names, with_con, IsWritten, WritesType, WritesRow, AreDistinct}
+use Rattle.ur_type_conditions.specs.Names.{Local, Globals, Names, with_con, IsWritten, WritesType, WritesRow}
 use Rattle.ur_type_conditions.specs.Names as here
 use Rattle.ur_typed.specs.Resolves.{IsParam, Statements, Resolves}
 

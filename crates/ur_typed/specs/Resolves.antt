@@ -24,10 +24,8 @@ use Rattle.ur_type_words.specs.Places.{Place, in_form, Sort, sort_of, place_of}
 use Rattle.ur_syntax.specs.declared.con.FieldName.{FieldName}
 use Rattle.ur_syntax.specs.declared.con.FieldName.TheVariants as field_name
 use Rattle.ur_syntax.specs.declared.con.ConParam.TheVariants as con_param
-use Rattle.ur_syntax.specs.declared.kind.Kind.{Kind}
 use Rattle.ur_syntax.specs.declared.kind.Kind.TheVariants as kind
 use Rattle.ur_syntax.specs.Names.{own, member as of_module}
-use Rattle.ur_syntax.specs.Kinds.{arrow}
 use Rattle.ur_syntax.specs.declared.sql.DeclName.{DeclName}
 use Rattle.ur_syntax.specs.declared.sql.SqlQuery.{SqlQuery}
 use Rattle.ur_syntax.specs.declared.sql.SqlChange.{SqlChange}
