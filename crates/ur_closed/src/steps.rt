@@ -2,6 +2,7 @@
 ghost use Rattle.std.specs.Prelude.{◌≡◌, [], ◌∷◌, ◌++◌, true, IfOk};
 ghost use Rattle.ur_rows.specs.declared.normal.Normal.TheVariants as normal;
 ghost use Rattle.ur_rows.specs.IsNormal.{is_normal_part, is_normal_row, is_normal_type};
+ghost use Rattle.ur_rows.specs.Put.{instance_row};
 ghost use Rattle.ur_source.specs.Reading.{fold_steps, step_at, steps_of};
 ghost use Rattle.ur_closing.specs.Held.{Grows};
 ghost use Rattle.ur_closing.specs.Scopes.{StepIs, StepMayBe, StepsMayBe, cons_of};
@@ -11,6 +12,10 @@ use std::alloc::Global;
 use ur_base::{List, Memory};
 use ur_closing::{Closing, Scope, Step};
 use ur_rows::{Label, Normal, NormalType, Part, copy_label, copy_row, copy_type};
+
+/// How many parts a row may have that is folded over. A step has a copy of the row behind its field, so more are want of
+/// memory.
+const FOLDED: usize = 2048;
 
 /// The steps of a row's fields under the scope, the last one first; none where it has a part that is no field.
 pub fn fold_steps(
@@ -22,8 +27,25 @@ pub fn fold_steps(
     ensures steps { IfOk result (λ ss. StepsMayBe closing.new ss (fold_steps (cons_of closing.old scope.now) row.now)) }
     ensures grows { Grows closing.old closing.new }
 {
-    let closed = row_under(alloc, closing, scope, row)?;
+    let closed = folded_row(alloc, closing, scope, row)?;
     steps_of(alloc, closing, closed)
+}
+
+/// The row under the scope, where it may be folded over.
+fn folded_row(
+    alloc: Global,
+    closing: &Closing<'_>,
+    scope: &Scope,
+    row: &List<Part>,
+) -> Result<List<Part>, Memory>
+    ensures of { IfOk result (λ x. x ≡ instance_row (cons_of closing.now scope.now) row.now) }
+    ensures in_order { IfOk result (λ x. is_normal_row x ≡ true) }
+{
+    let closed = row_under(alloc, closing, scope, row)?;
+    if closed.len() > FOLDED {
+        return Err(Memory);
+    }
+    Ok(closed)
 }
 
 /// The steps of a closed row's fields.
