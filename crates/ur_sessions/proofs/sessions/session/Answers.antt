@@ -6,8 +6,9 @@ use Rattle.ur_base.specs.Told.{WhereTold}
 use Rattle.ur_io.specs.declared.session.Mark.{Mark}
 use Rattle.ur_io.specs.declared.session.Mark.TheVariants as mark
 use Rattle.ur_io.specs.declared.session.SessionEnd.{SessionEnd}
+use Rattle.ur_sessions.specs.declared.arrivals.Arrival.TheVariants as arrival
 use Rattle.ur_sessions.specs.Saying.{mark_of, closes_of, bytes_of, Says, IsOver}
-use Rattle.ur_sessions.proofs.Rounds.{InSession, HasSession, in_session-none, in_session-more, has_session-over, has_session-ended, wired_none, over_not_ended, goes_on_done, not_full, keeper_last, rose_later, last_is, wired_more, answerable_on}
+use Rattle.ur_sessions.proofs.Rounds.{InSession, HasSession, in_session-none, in_session-more, has_session-over, has_session-ended, wired_none, over_not_ended, goes_on_done, not_full, keeper_last, rose_later, last_is, wired_more, wired_ended, answerable_on}
 use Rattle.ur_sessions.proofs.sessions.session.Goals as goal
 
 pub loop-why-init : goal.loop-why-init
@@ -44,6 +45,14 @@ returns-in-Ended-clause-session g c =
     subst (HasSession answers reaches g.A.Responder.kept c.args.most told0 state0 told2 state1) (sym c.ended.ensures)
     (has_session-ended answers reaches g.A.Responder.kept c.args.most told0 told1 told2 state0 state1 c.loop-why.splitter.left c.next_arrival-arrival.new.splitter.left c.loop-why.marks.items c.in-Ended.why
     c.loop-why.invariant.sofar c.in-Ended.ensures.comes c.loop-why.invariant.short)
+
+pub returns-in-Ended-clause-few : goal.returns-in-Ended-clause-few
+returns-in-Ended-clause-few g c = omega (arith, c.loop-why.invariant.short, ap (λ (e : SessionEnd). length e.marks) c.ended.ensures)
+
+pub returns-in-Ended-clause-coming : goal.returns-in-Ended-clause-coming
+returns-in-Ended-clause-coming g c =
+    wired_ended (g.W.Wire.told c.args.wire.now) (g.W.Wire.told c.loop-why.wire) (g.W.Wire.told c.next_arrival-arrival.new.wire) c.loop-why.splitter.left c.next_arrival-arrival.new.splitter.left
+    (arrival.Ended c.in-Ended.why) c.loop-why.invariant.wired c.in-Ended.ensures.comes
 
 pub reply-said-requires : goal.reply-said-requires
 reply-said-requires g c = record {
@@ -100,6 +109,8 @@ returns-in-Some g c =
       ended = λ e. absurd (over_not_ended (length (marks ++ mark_of what ∷ []) == most) (closes_of what) c.in-Some.why over
           (elim e [ inl x ↦ inl (sym why ∙ x) | inr x ↦ inr (sym why ∙ x) ]));
       current = c.in-Some.ensures.current;
+      few = omega (arith, count, so.short);
+      coming = wired_more told0 told1 told2 told3 held held' (bytes_of what) came (Some c.in-Some.why) so.wired c.next_arrival-arrival.ensures.comes c.in-Some.ensures.writes;
       ready = λ bound n r. c.reply-said.ensures.ready bound n (so.ready bound (suc n)
           (subst (λ k. g.A.Responder.is_ready bound c.args.responder.now c.args.keeper.now k) (omega (arith, count)) r));
       same = c.reply-said.ensures.same ∙ so.same;
