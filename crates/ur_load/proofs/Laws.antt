@@ -1,21 +1,26 @@
--- The files of a project are at most one program, and no refusal of them holds where they are one.
+-- The files of a project spell its trees in one way at most and are one program at most, and no refusal of them holds where they are.
 use Rattle.std.proofs.Common.{◌≡◌, ℕ, suc, ◌≤◌, List, [], ◌∷◌, ◌++◌, length, Option, Some, None, refl, sym, ap, subst, ◌∙◌, arith}
 use Rattle.ur_base.specs.declared.refusal.Refusal.{Refusal}
 use Rattle.ur_io.specs.Files.{Files}
 use Rattle.ur_lex.proofs.Derivations.{one_list}
 use Rattle.ur_lex.specs.declared.token.Lexeme.{Lexeme}
 use Rattle.ur_lex.specs.Lexing.{IsTokens}
+use Rattle.ur_grammar.specs.Rules.{part, Spells}
 use Rattle.ur_syntax.specs.declared.decl.Module.{Module as Tree}
-use Rattle.ur_parse_rules.specs.DeclParts.{whole}
-use Rattle.ur_parse_rules.specs.Language.{IsModule, max_nesting}
-use Rattle.ur_parse_rules.specs.Parts.{of_decl}
+use Rattle.ur_syntax.specs.declared.decl.Signature.{Signature}
+use Rattle.ur_parse_rules.specs.DeclParts.{DeclPart, whole, signature}
+use Rattle.ur_parse_rules.specs.Language.{language, IsModule, IsSignature, max_nesting}
+use Rattle.ur_parse_rules.specs.Parts.{of_decl, Tree as AnyTree}
 use Rattle.ur_parse_rules.proofs.AllDecided.{one_of}
 use Rattle.ur_parse_sig.specs.Wholes.{RefusesWhole}
 use Rattle.ur_project.specs.Project.{IsProject, RefusesProject}
 use Rattle.ur_project.proofs.Laws.{one_project_of, no_project}
 use Rattle.ur_load.specs.Names.{project_file, module_file, signature_file, main_of}
-use Rattle.ur_load.specs.Sources.{HasFile, IsThere, IsTooLong, Lacks, NamesModules, IsSource, AreSources, HasSignature, HasSources, HasTree, HaveTrees, file_limit}
-use Rattle.ur_load.specs.Accepts.{program_in, unsigned, program_of, IsProgram, Accepts, RefusesTokens, RefusesSource, RefusesSources, IsRefused, Refuses}
+use Rattle.ur_load.specs.Sources.{HasFile, IsThere, IsTooLong, Lacks, NamesModules, IsSource, AreSources, HasSignature, HasSources, HasTree, HaveTrees, HasSignatureTree, IsSignatureTree, AreSpelled, file_limit}
+use Rattle.ur_load.specs.Refuses.{RefusesTokens, RefusesSource, RefusesSources, RefusesFiles}
+use Rattle.ur_load.specs.Loaded.{IsLoaded, IsLoadedFrom}
+use Rattle.ur_load.specs.Accepts.{program_in, unsigned, program_of, IsProgram, Accepts, IsUnbuilt, IsRefused, Refuses}
+use Rattle.ur_load.specs.declared.loaded.Loaded.{Loaded}
 use Rattle.ur_load.specs.declared.program.Program.{Program}
 use Rattle.ur_load.specs.declared.source.Source.{Source}
 use Rattle.ur_load.specs.declared.source.Sources.{Sources}
@@ -83,6 +88,35 @@ trees_once (s ∷ ss) [] us a b = absurd a
 trees_once (s ∷ ss) (t ∷ ts) [] a b = absurd b
 trees_once (s ∷ ss) (t ∷ ts) (u ∷ us) (a, as_) (b, bs) = ap (λ z. z ∷ ts) (tree_once s t u a b) ∙ ap (λ z. u ∷ z) (trees_once ss ts us as_ bs)
 
+signed_once : (s : Source) (t u : Signature) → HasSignatureTree s t → HasSignatureTree s u → t ≡ u
+signed_once s t u a b = one_of (of_decl signature) max_nesting max_nesting t u a.tokens a.spelled (subst (λ z. IsSignature max_nesting z u) (one_tokens s b.tokens a.tokens b.cut a.cut) b.spelled)
+
+signature_tree_once : (found : Option Source) (x y : Option Signature) → IsSignatureTree found x → IsSignatureTree found y → x ≡ y
+signature_tree_once None None None a b = refl
+signature_tree_once None None (Some u) a b = absurd b
+signature_tree_once None (Some t) y a b = absurd a
+signature_tree_once (Some s) None y a b = absurd a
+signature_tree_once (Some s) (Some t) None a b = absurd b
+signature_tree_once (Some s) (Some t) (Some u) a b = ap Some (signed_once s t u a b)
+
+-- ---- what is loaded, and the program
+
+same_loaded : (l m : Loaded) → l.project ≡ m.project → l.files ≡ m.files → l.names ≡ m.names → l.modules ≡ m.modules → l.signature ≡ m.signature → l ≡ m
+same_loaded l m p f n t s =
+    ap (λ z. record { project = z; files = l.files; names = l.names; modules = l.modules; signature = l.signature }) p
+    ∙ ap (λ z. record { project = m.project; files = z; names = l.names; modules = l.modules; signature = l.signature }) f
+    ∙ ap (λ z. record { project = m.project; files = m.files; names = z; modules = l.modules; signature = l.signature }) n
+    ∙ ap (λ z. record { project = m.project; files = m.files; names = m.names; modules = z; signature = l.signature }) t
+    ∙ ap (λ z. record { project = m.project; files = m.files; names = m.names; modules = m.modules; signature = z }) s
+
+loaded_once : (project : List ℕ) (sources : Sources) (l m : Loaded) → IsLoadedFrom project sources l → IsLoadedFrom project sources m → l ≡ m
+loaded_once project sources l m a b = same_loaded l m (a.own ∙ sym b.own) (a.files ∙ sym b.files) (a.names ∙ sym b.names)
+    (trees_once sources.modules l.modules m.modules a.spelled.modules b.spelled.modules) (signature_tree_once sources.signature l.signature m.signature a.spelled.signed b.spelled.signed)
+
+pub one_project : (files : Files) (project : List ℕ) (l m : Loaded) → IsLoaded files project l → IsLoaded files project m → l ≡ m
+one_project files project l m a b =
+    loaded_once project a.sources l m a.from_sources (subst (λ z. IsLoadedFrom project z m) (all_once files project b.sources a.sources b.has a.has) b.from_sources)
+
 pub one_program : (files : Files) (project : List ℕ) (p q : Program) → Accepts files project p → Accepts files project q → p ≡ q
 one_program files project p q a b =
     let sources : a.sources ≡ b.sources = all_once files project a.sources b.sources a.has b.has in
@@ -90,7 +124,7 @@ one_program files project p q a b =
     let trees : a.is.trees ≡ is.trees = trees_once a.sources.modules a.is.trees is.trees a.is.spelled is.spelled in
     let both : Some p ≡ Some q = sym a.is.is ∙ ap (program_of a.sources) trees ∙ is.is in cc
 
--- ---- no refusal beside a program
+-- ---- no refusal of what is loaded
 
 there_lacks : (files : Files) (file : List ℕ) (r : Refusal) → IsThere files file → Lacks files file r → ⊥
 there_lacks files file r (bytes, has) (Lacks.missing none says) = not_there files file bytes has.0 none
@@ -122,14 +156,18 @@ signature_fits files project names (Some s) r (number, name, file, has) ((bytes,
     let same : length s.bytes ≡ length bytes = ap length (one_file files (signature_file project (main_of names)) s.bytes bytes (subst (λ z. files z ≡ Some s.bytes) file has.0) is) in
     let within : length s.bytes ≤ file_limit = has.1 in omega (arith, same, within, long)
 
-whole_refused : (tokens : List Lexeme) (tree : Tree) (r : Refusal) → IsModule max_nesting tokens tree → RefusesWhole max_nesting (of_decl whole) tokens r → ⊥
-whole_refused tokens tree r is (RefusesWhole.syntax says none) = none max_nesting tree is
-whole_refused tokens tree r is (RefusesWhole.nested taken rest says none cut opened) = none tree is
+whole_refused : (p : DeclPart) (tokens : List Lexeme) (tree : AnyTree (of_decl p)) (r : Refusal) → Spells language max_nesting (part (of_decl p) tree ∷ []) tokens
+    → RefusesWhole max_nesting (of_decl p) tokens r → ⊥
+whole_refused p tokens tree r is (RefusesWhole.syntax says none) = none max_nesting tree is
+whole_refused p tokens tree r is (RefusesWhole.nested taken rest says none cut opened) = none tree is
 
-source_refused : (s : Source) (tree : Tree) (r : Refusal) → HasTree s tree → RefusesSource whole s r → ⊥
-source_refused s tree r h (RefusesSource.no_tokens (RefusesTokens.not_text none number says)) = none h.cut.0
-source_refused s tree r h (RefusesSource.no_tokens (RefusesTokens.no_token text none says)) = none h.tokens h.cut
-source_refused s tree r h (RefusesSource.no_tree tokens cut refuses) = whole_refused tokens tree r (subst (λ z. IsModule max_nesting z tree) (one_tokens s h.tokens tokens h.cut cut) h.spelled) refuses
+-- the tokens of a source being spelled, it is not refused
+source_refused : (p : DeclPart) (s : Source) (tokens : List Lexeme) (tree : AnyTree (of_decl p)) (r : Refusal) → IsTokens s.number s.bytes tokens
+    → Spells language max_nesting (part (of_decl p) tree ∷ []) tokens → RefusesSource p s r → ⊥
+source_refused p s tokens tree r cut is (RefusesSource.no_tokens (RefusesTokens.not_text none number says)) = none cut.0
+source_refused p s tokens tree r cut is (RefusesSource.no_tokens (RefusesTokens.no_token text none says)) = none tokens cut
+source_refused p s tokens tree r cut is (RefusesSource.no_tree others cut' refuses) =
+    whole_refused p others tree r (subst (λ z. Spells language max_nesting (part (of_decl p) tree ∷ []) z) (one_tokens s tokens others cut cut') is) refuses
 
 tree_in : (before behind : List Source) (s : Source) (trees : List Tree) → HaveTrees (before ++ s ∷ behind) trees → (tree : Tree) × HasTree s tree
 tree_in [] behind s [] h = absurd h
@@ -137,28 +175,60 @@ tree_in [] behind s (tree ∷ trees) (h, rest) = (tree, h)
 tree_in (b ∷ before) behind s [] h = absurd h
 tree_in (b ∷ before) behind s (tree ∷ trees) (h, rest) = tree_in before behind s trees rest
 
-signed_is_none : (sources : Sources) (s : Source) (trees : List Tree) (p : Program) → sources.signature ≡ Some s → program_of sources trees ≡ Some p → ⊥
-signed_is_none sources s trees p e is = let none : None ≡ Some p = subst (λ z. unsigned z (program_in sources.modules trees) ≡ Some p) e is in cc
+signed_refused : (found : Option Source) (s : Source) (x : Option Signature) (r : Refusal) → found ≡ Some s → IsSignatureTree found x → RefusesSource signature s r → ⊥
+signed_refused None s x r e h why = absurd (cc)
+signed_refused (Some q) s None r e h why = absurd h
+signed_refused (Some q) s (Some tree) r e h why =
+    let same : q ≡ s = cc in
+    let is : HasSignatureTree s tree = subst (λ z. HasSignatureTree z tree) same h in source_refused signature s is.tokens tree r is.cut is.spelled why
 
-sources_refused : (project : List ℕ) (sources : Sources) (p : Program) (file : List ℕ) (r : Refusal) → IsProgram sources p → RefusesSources project sources file r → ⊥
-sources_refused project sources p _ r is (RefusesSources.no_module before behind s trees _ cut spelled why) =
-    let found = tree_in before behind s is.trees (subst (λ z. HaveTrees z is.trees) cut is.spelled) in source_refused s found.0 r found.1 why
-sources_refused project sources p _ r is (RefusesSources.no_signature s trees _ signed spelled why) = signed_is_none sources s is.trees p signed is.is
-sources_refused project sources p _ r is (RefusesSources.not_built trees _ spelled signed none says) =
+sources_refused : (sources : Sources) (trees : List Tree) (x : Option Signature) (file : List ℕ) (r : Refusal) → AreSpelled sources trees x → RefusesSources sources file r → ⊥
+sources_refused sources trees x _ r is (RefusesSources.no_module before behind s front _ cut spelled why) =
+    let found = tree_in before behind s trees (subst (λ z. HaveTrees z trees) cut is.modules) in source_refused whole s found.1.tokens found.0 r found.1.cut found.1.spelled why
+sources_refused sources trees x _ r is (RefusesSources.no_signature s front _ signed spelled why) = signed_refused sources.signature s x r signed is.signed why
+
+-- files that spell trees are not refused as files
+spelled_refused : (files : Files) (project file : List ℕ) (r : Refusal) (sources : Sources) (trees : List Tree) (x : Option Signature) → RefusesFiles files project file r
+    → HasSources files project sources → AreSpelled sources trees x → ⊥
+spelled_refused files project _ r sources trees x (RefusesFiles.no_project _ lacks) has is = there_lacks files (project_file project) r (has.named.0.0, has.named.0.1) lacks
+spelled_refused files project _ r sources trees x (RefusesFiles.bad_project bytes _ there refuses) has is = named_refused files project has.names bytes r has.named there refuses
+spelled_refused files project _ r sources trees x (RefusesFiles.no_file before behind name _ named there lacks) has is =
+    let same : has.names ≡ before ++ name ∷ behind = one_names files project has.names (before ++ name ∷ behind) has.named named in
+    there_lacks files (module_file project name) r (there_in files project 1 before behind name sources.modules (subst (λ z. AreSources files project 1 z sources.modules) same has.modules)) lacks
+spelled_refused files project _ r sources trees x (RefusesFiles.long_signature names _ named there long) has is =
+    signature_fits files project names sources.signature r (subst (λ z. HasSignature files project z sources.signature) (one_names files project has.names names has.named named) has.signature) long
+spelled_refused files project _ r sources trees x (RefusesFiles.of_sources others file _ has' refuses) has is =
+    sources_refused sources trees x file r is (subst (λ z. RefusesSources z file r) (all_once files project others sources has' has) refuses)
+
+pub refused_is_not_loaded : (files : Files) (project file : List ℕ) (r : Refusal) (l : Loaded) → RefusesFiles files project file r → IsLoaded files project l → ⊥
+refused_is_not_loaded files project file r l refuses is = spelled_refused files project file r is.sources l.modules l.signature refuses is.has is.from_sources.spelled
+
+-- ---- no refusal beside a program
+
+-- a project of the form has no signature
+unsigned_is_none : (found : Option Source) (program : Option Program) (p : Program) → unsigned found program ≡ Some p → found ≡ None
+unsigned_is_none None program p is = refl
+unsigned_is_none (Some s) program p is = absurd (cc)
+
+program_spelled : (sources : Sources) (p : Program) (is : IsProgram sources p) → AreSpelled sources is.trees None
+program_spelled sources p is = record {
+  modules = is.spelled;
+  signed = subst (λ z. IsSignatureTree z None) (sym (unsigned_is_none sources.signature (program_in sources.modules is.trees) p is.is)) tt;
+}
+
+unbuilt_refused : (project : List ℕ) (sources : Sources) (p : Program) (trees : List Tree) (file : List ℕ) (r : Refusal) → IsProgram sources p → HaveTrees sources.modules trees
+    → IsUnbuilt project sources trees file r → ⊥
+unbuilt_refused project sources p trees file r is spelled h =
     let same : trees ≡ is.trees = trees_once sources.modules trees is.trees spelled is.spelled in
-    let both : None ≡ Some p = sym none ∙ ap (program_of sources) same ∙ is.is in cc
+    let both : None ≡ Some p = sym h.none ∙ ap (program_of sources) same ∙ is.is in cc
 
 -- a refusal of files that are a program holds of no files
 refused_in : (files : Files) (project : List ℕ) (program : Program) (file : List ℕ) (r : Refusal) → Accepts files project program → IsRefused files project file r → ⊥
-refused_in files project program _ r a (IsRefused.no_project _ lacks) = there_lacks files (project_file project) r (a.has.named.0.0, a.has.named.0.1) lacks
-refused_in files project program _ r a (IsRefused.bad_project bytes _ has refuses) = named_refused files project a.has.names bytes r a.has.named has refuses
-refused_in files project program _ r a (IsRefused.no_file before behind name _ named there lacks) =
-    let same : a.has.names ≡ before ++ name ∷ behind = one_names files project a.has.names (before ++ name ∷ behind) a.has.named named in
-    there_lacks files (module_file project name) r (there_in files project 1 before behind name a.sources.modules (subst (λ z. AreSources files project 1 z a.sources.modules) same a.has.modules)) lacks
-refused_in files project program _ r a (IsRefused.long_signature names _ named there long) =
-    signature_fits files project names a.sources.signature r (subst (λ z. HasSignature files project z a.sources.signature) (one_names files project a.has.names names a.has.named named) a.has.signature) long
-refused_in files project program _ r a (IsRefused.of_sources sources file _ has refuses) =
-    sources_refused project a.sources program file r a.is (subst (λ z. RefusesSources project z file r) (all_once files project sources a.sources has a.has) refuses)
+refused_in files project program file r a (IsRefused.no_trees refuses) =
+    spelled_refused files project file r a.sources a.is.trees None refuses a.has (program_spelled a.sources program a.is)
+refused_in files project program file r a (IsRefused.not_built sources trees x has spelled h) =
+    let same : a.sources ≡ sources = all_once files project a.sources sources a.has has in
+    unbuilt_refused project sources program trees file r (subst (λ z. IsProgram z program) same a.is) spelled.modules h
 
 pub not_both : (files : Files) (project : List ℕ) (program : Program) (r : Refusal) → Accepts files project program → Refuses files project r → ⊥
 not_both files project program r a (file, refused) = refused_in files project program file r a refused

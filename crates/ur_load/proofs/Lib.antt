@@ -1,6 +1,7 @@
 pub mod Folders
 pub mod Fetched
 pub mod Laws
-pub mod Loaded
+pub mod Found
 pub mod Made
+pub mod Numbers
 pub mod Reading

@@ -17,7 +17,7 @@ use Rattle.ur_parse_rules.specs.Language.{IsModule, IsSignature, max_nesting}
 use Rattle.ur_parse_rules.specs.Parts.{of_decl}
 use Rattle.ur_parse_sig.specs.Wholes.{RefusesWhole}
 use Rattle.ur_load.specs.Sources.{SaysOfFile, HasTree, HaveTrees, HasSignatureTree, file_limit}
-use Rattle.ur_load.specs.Accepts.{RefusesTokens, RefusesSource}
+use Rattle.ur_load.specs.Refuses.{RefusesTokens, RefusesSource}
 use Rattle.ur_load.specs.Loads.{IfRefusedIn, OnShelf, IsStopAt, TellsOf, SaysTheSame, SaysText, RefusesModules, RefusesSignature, AreSmall}
 use Rattle.ur_load.specs.declared.load_end.LoadEnd.{LoadEnd}
 use Rattle.ur_load.specs.declared.load_end.LoadEnd.TheVariants.{Refused, Shelf, Memory}

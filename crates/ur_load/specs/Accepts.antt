@@ -1,20 +1,14 @@
--- What the files of a project say: a program, or why there is none.
-use Rattle.std.specs.Prelude.{◌≡◌, ℕ, List, [], ◌∷◌, ◌++◌, Option, Some, None, IsUtf8, codes}
+-- The program that the files of a project are, or why there is none.
+use Rattle.std.specs.Prelude.{◌≡◌, ℕ, List, [], ◌∷◌, Option, Some, None, codes}
 use Rattle.ur_base.specs.declared.refusal.Refusal.{Refusal}
-use Rattle.ur_base.specs.Stopping.{Says}
 use Rattle.ur_io.specs.Files.{Files}
-use Rattle.ur_lex.specs.declared.token.Lexeme.{Lexeme}
-use Rattle.ur_lex.specs.Lexing.{IsTokens}
 use Rattle.ur_syntax.specs.declared.decl.Module.{Module as Tree}
-use Rattle.ur_parse_rules.specs.DeclParts.{DeclPart, whole, signature}
-use Rattle.ur_parse_rules.specs.Parts.{of_decl}
-use Rattle.ur_parse_rules.specs.Language.{max_nesting}
-use Rattle.ur_parse_sig.specs.Wholes.{RefusesWhole}
-use Rattle.ur_project.specs.Project.{RefusesProject}
+use Rattle.ur_syntax.specs.declared.decl.Signature.{Signature}
 use Rattle.ur_page.specs.declared.module.Module.{Module}
 use Rattle.ur_form.specs.Pages.{pages_of}
-use Rattle.ur_load.specs.Names.{project_file, module_file, signature_file, module_name, main_of}
-use Rattle.ur_load.specs.Sources.{SaysOfFile, HasFile, IsTooLong, Lacks, NamesModules, AreThere, HasSources, HaveTrees, SignatureIsSpelled}
+use Rattle.ur_load.specs.Names.{project_file, module_name}
+use Rattle.ur_load.specs.Sources.{SaysOfFile, HasSources, HaveTrees, AreSpelled}
+use Rattle.ur_load.specs.Refuses.{RefusesFiles}
 use Rattle.ur_load.specs.declared.program.Program.{Program}
 use Rattle.ur_load.specs.declared.source.Source.{Source}
 use Rattle.ur_load.specs.declared.source.Sources.{Sources}
@@ -54,16 +48,6 @@ pub record Accepts (files : Files) (project : List ℕ) (program : Program) : Ty
 
 -- ---- refusals
 
--- why the bytes have no tokens: they are not UTF-8, or something in them is no token
-pub data RefusesTokens (s : Source) (r : Refusal) : Type 0 where
-  not_text : (IsUtf8 s.bytes → ⊥) → r.span.file ≡ s.number → SaysOfFile r 3 s.file [] → RefusesTokens s r
-  no_token : IsUtf8 s.bytes → ((tokens : List Lexeme) → IsTokens s.number s.bytes tokens → ⊥) → Says r 4 [] [] → RefusesTokens s r
-
--- why the bytes are spelled by no tree of this part of the grammar
-pub data RefusesSource (p : DeclPart) (s : Source) (r : Refusal) : Type 0 where
-  no_tokens : RefusesTokens s r → RefusesSource p s r
-  no_tree : (tokens : List Lexeme) → IsTokens s.number s.bytes tokens → RefusesWhole max_nesting (of_decl p) tokens r → RefusesSource p s r
-
 -- the file that is not of the form that runs: the module's, where there is one module alone, or else the project file
 abbrev pub unbuilt_in : List ℕ → List Source → List ℕ
 unbuilt_in project (s ∷ []) = s.file
@@ -75,29 +59,18 @@ unbuilt_file project sources = of sources.signature where
   of None = unbuilt_in project sources.modules
   of (Some s) = project_file project
 
--- Why the sources are no program, and in which file: the first module that no tree spells; where all modules have trees,
--- the signature; and where it has one too, that the project is not of the form that runs.
-pub data RefusesSources (project : List ℕ) (sources : Sources) : List ℕ → Refusal → Type 0 where
-  no_module : (before behind : List Source) (s : Source) (trees : List Tree) (r : Refusal) → sources.modules ≡ before ++ s ∷ behind → HaveTrees before trees
-      → RefusesSource whole s r → RefusesSources project sources s.file r
-  no_signature : (s : Source) (trees : List Tree) (r : Refusal) → sources.signature ≡ Some s → HaveTrees sources.modules trees
-      → RefusesSource signature s r → RefusesSources project sources s.file r
-  not_built : (trees : List Tree) (r : Refusal) → HaveTrees sources.modules trees → SignatureIsSpelled sources.signature
-      → program_of sources trees ≡ None → SaysOfFile r 21 (codes "form") [] → RefusesSources project sources (unbuilt_file project sources) r
+-- the refusal of sources that are not of the form that runs, and its file
+pub record IsUnbuilt (project : List ℕ) (sources : Sources) (trees : List Tree) (file : List ℕ) (r : Refusal) : Type 0 where
+  pub file_is : file ≡ unbuilt_file project sources
+  pub none : program_of sources trees ≡ None
+  pub says : SaysOfFile r 21 (codes "form") []
 
--- Why the files are no program, and in which file: the project file is not there, is too long or names no modules; then
--- the first of the modules' files that is not there or is too long; then the signature, where it is too long; and then the
--- sources.
-pub data IsRefused (files : Files) (project : List ℕ) : List ℕ → Refusal → Type 0 where
-  no_project : (r : Refusal) → Lacks files (project_file project) r → IsRefused files project (project_file project) r
-  bad_project : (bytes : List ℕ) (r : Refusal) → HasFile files (project_file project) bytes → RefusesProject (project_file project) bytes r
-      → IsRefused files project (project_file project) r
-  no_file : (before behind : List (List ℕ)) (name : List ℕ) (r : Refusal) → NamesModules files project (before ++ name ∷ behind)
-      → AreThere files project before → Lacks files (module_file project name) r → IsRefused files project (module_file project name) r
-  long_signature : (names : List (List ℕ)) (r : Refusal) → NamesModules files project names → AreThere files project names
-      → IsTooLong files (signature_file project (main_of names)) r → IsRefused files project (signature_file project (main_of names)) r
-  of_sources : (sources : Sources) (file : List ℕ) (r : Refusal) → HasSources files project sources → RefusesSources project sources file r
-      → IsRefused files project file r
+-- Why the files are no program, and in which file: they spell no trees; and where they spell some, that the project is not of
+-- the form that runs.
+pub data IsRefused (files : Files) (project : List ℕ) (file : List ℕ) (r : Refusal) : Type 0 where
+  no_trees : RefusesFiles files project file r → IsRefused files project file r
+  not_built : (sources : Sources) (trees : List Tree) (signature : Option Signature) → HasSources files project sources
+      → AreSpelled sources trees signature → IsUnbuilt project sources trees file r → IsRefused files project file r
 
 -- the refusal is the one of these files
 abbrev pub Refuses : Files → List ℕ → Refusal → Type 0

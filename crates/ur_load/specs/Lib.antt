@@ -1,4 +1,6 @@
 pub mod Names
 pub mod Sources
+pub mod Refuses
+pub mod Loaded
 pub mod Accepts
 pub mod Loads

@@ -1,5 +1,5 @@
 -- Words on what loading a program answers.
-use Rattle.std.specs.Prelude.{◌≡◌, ℕ, ◌≤◌, List, [], ◌∷◌, ◌++◌, length, Option, Some, None, ⊤, Result, Err, codes}
+use Rattle.std.specs.Prelude.{◌≡◌, ℕ, ◌≤◌, List, [], ◌∷◌, ◌++◌, length, Option, Some, None, ⊤, Result, Err}
 use Rattle.ur_base.specs.declared.refusal.Refusal.{Refusal}
 use Rattle.ur_base.specs.declared.refusal.Stop.{Stop}
 use Rattle.ur_base.specs.declared.refusal.Stop.TheVariants as stop
@@ -11,11 +11,10 @@ use Rattle.ur_load.specs.Names.{module_file}
 use Rattle.ur_syntax.specs.declared.decl.Module.{Module}
 use Rattle.ur_parse_rules.specs.DeclParts.{whole, signature}
 use Rattle.ur_load.specs.Sources.{SaysOfFile, HasFile, Lacks, AreThere, HaveTrees, file_limit}
-use Rattle.ur_load.specs.Accepts.{RefusesSource, program_of, unbuilt_file}
+use Rattle.ur_load.specs.Refuses.{RefusesSource}
 use Rattle.ur_load.specs.declared.load_end.LoadEnd.{LoadEnd}
 use Rattle.ur_load.specs.declared.load_end.LoadEnd.TheVariants.{Refused, Shelf, Memory}
 use Rattle.ur_load.specs.declared.source.Source.{Source}
-use Rattle.ur_load.specs.declared.source.Sources.{Sources}
 
 -- P of the file and the refusal, where there is no program for one
 abbrev pub IfRefusedIn : {A : Type 0} → Result A LoadEnd → (List ℕ → Refusal → Type 0) → Type 0
@@ -89,12 +88,6 @@ pub record RefusesModules (sources : List Source) (file : List ℕ) (r : Refusal
 abbrev pub RefusesSignature : Option Source → List ℕ → Refusal → Type 0
 RefusesSignature None file r = ⊥
 RefusesSignature (Some s) file r = (file ≡ s.file) × RefusesSource signature s r
-
--- the refusal of sources that are not of the form that runs, and its file
-pub record IsUnbuilt (project : List ℕ) (sources : Sources) (trees : List Module) (file : List ℕ) (r : Refusal) : Type 0 where
-  pub file_is : file ≡ unbuilt_file project sources
-  pub none : program_of sources trees ≡ None
-  pub says : SaysOfFile r 21 (codes "form") []
 
 -- the refusal of this source, which is not UTF-8, or want of memory
 abbrev pub SaysText : Source → Stop → Type 0

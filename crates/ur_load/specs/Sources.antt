@@ -95,7 +95,13 @@ pub record HasSignatureTree (s : Source) (tree : Signature) : Type 0 where
   pub cut : IsTokens s.number s.bytes tokens
   pub spelled : IsSignature max_nesting tokens tree
 
--- the signature, where there is one, is spelled by a tree
-abbrev pub SignatureIsSpelled : Option Source → Type 0
-SignatureIsSpelled None = ⊤
-SignatureIsSpelled (Some s) = (tree : Signature) × HasSignatureTree s tree
+-- the signature's tree, where there is a signature, and none where there is none
+abbrev pub IsSignatureTree : Option Source → Option Signature → Type 0
+IsSignatureTree None None = ⊤
+IsSignatureTree (Some s) (Some tree) = HasSignatureTree s tree
+IsSignatureTree _ _ = ⊥
+
+-- the sources are spelled by these trees
+pub record AreSpelled (sources : Sources) (trees : List Module) (signature : Option Signature) : Type 0 where
+  pub modules : HaveTrees sources.modules trees
+  pub signed : IsSignatureTree sources.signature signature

@@ -1,14 +1,13 @@
 //! The program that the sources of a project are.
 ghost use Rattle.std.specs.Prelude.{◌≡◌, [], Some, IfOk, codes};
-ghost use Rattle.ur_load.specs.Accepts.{IsProgram, RefusesSources, named_pages, unbuilt_file, program_of as program_in_all};
-ghost use Rattle.ur_load.specs.Loads.{IfRefusedIn, OnShelf, IsUnbuilt, AreSmall, IsSmall, SaysIn};
+ghost use Rattle.ur_load.specs.Accepts.{IsUnbuilt, named_pages, unbuilt_file, program_of as program_in_all};
+ghost use Rattle.ur_load.specs.Loads.{IfRefusedIn, OnShelf, SaysIn};
 ghost use Rattle.ur_form.specs.Pages.{pages_of};
 
 use crate::files::{module_name, project_file};
 use crate::load_end::{LoadEnd, refused_in};
 use crate::program::Program;
 use crate::source::{Source, Sources};
-use crate::trees::{read_signature, trees_of};
 use std::alloc::Global;
 use ur_base::{List, Memory};
 use ur_form::page_module;
@@ -53,8 +52,8 @@ fn not_built(alloc: Global, project: &str, sources: &Sources) -> Result<LoadEnd,
     }
 }
 
-/// The program of the sources with these trees, or that they are not of the form that runs.
-fn finished(
+/// The program that the sources with these trees are, or that they are not of the form that runs.
+pub fn program_of(
     alloc: Global,
     project: &str,
     sources: &Sources,
@@ -68,22 +67,5 @@ fn finished(
     match made {
         Some(program) => Ok(program),
         None => Err(not_built(alloc, project, sources)?),
-    }
-}
-
-/// The program that the sources are, or why they are none.
-pub fn program_of(alloc: Global, project: &str, sources: &Sources) -> Result<Program, LoadEnd>
-    requires modules { AreSmall sources.now.modules }
-    requires signature { IsSmall sources.now.signature }
-    ensures program { IfOk result (IsProgram sources.now) }
-    ensures refused { IfRefusedIn result (RefusesSources project.now sources.now) }
-    ensures no_shelf { OnShelf result ⊥ }
-{
-    match trees_of(alloc, sources.modules.as_slice()) {
-        Ok(trees) => match read_signature(alloc, &sources.signature) {
-            Ok(()) => finished(alloc, project, sources, trees.as_slice()),
-            Err(end) => Err(end),
-        },
-        Err(end) => Err(end),
     }
 }

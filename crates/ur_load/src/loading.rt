@@ -6,7 +6,8 @@ ghost use Rattle.ur_base.specs.Told.{WhereTold};
 ghost use Rattle.ur_page.specs.Words.{is_module_name};
 ghost use Rattle.ur_project.specs.Project.{IsProject, RefusesProject, module_limit};
 ghost use Rattle.ur_load.specs.Names.{module_file as file_of_module, signature_file as file_of_signature, main_of};
-ghost use Rattle.ur_load.specs.Sources.{IsSource, AreSources, HasSignature, HasSources, NamesModules, Lacks, IsTooLong, file_limit};
+ghost use Rattle.ur_load.specs.Sources.{IsSource, AreSources, HasSignature, HasSources, AreSpelled, NamesModules, Lacks, IsTooLong, file_limit};
+ghost use Rattle.ur_load.specs.Refuses.{RefusesFiles, RefusesSources};
 ghost use Rattle.ur_load.specs.Accepts.{Accepts, IsRefused};
 ghost use Rattle.ur_load.specs.Loads.{IfRefusedIn, OnShelf, LacksModule, AreSmall, IsSmall};
 
@@ -16,11 +17,13 @@ use crate::files::{module_file, project_file, signature_file};
 use crate::load_end::{LoadEnd, stopped_in};
 use crate::program::Program;
 use crate::source::{Source, Sources};
+use crate::trees::{signature_tree, trees_of};
 use std::alloc::Global;
 use std::str;
 use ur_base::{Bytes, List, Memory, Text};
 use ur_io::Shelf;
 use ur_project::read_project;
+use ur_syntax::{Module, Signature};
 
 /// The program of the project of this name. Refused with the first of these that is so, in its file: the project file is
 /// missing (E02), too long (E20), no text (E03), or wrong (E01), or names more than 64 modules (E20); a module's file is
@@ -39,8 +42,57 @@ pub fn load_program<S: Shelf>(
     ensures never_falls { S.faults shelf.old ≤ S.faults shelf.new }
     ensures kept { S.told shelf.new ≡ S.told shelf.old }
 {
+    match load_spelled(alloc, shelf, project) {
+        Ok(spelled) => program_of(alloc, project, &spelled.sources, spelled.modules.as_slice()),
+        Err(end) => Err(end),
+    }
+}
+
+/// The sources of a project, with the trees that spell them.
+#[derive(Drop)]
+pub struct Spelled {
+    pub sources: Sources,
+    pub modules: List<Module>,
+    pub signature: Option<Signature>,
+}
+
+/// The sources of the project of this name, with their trees.
+pub fn load_spelled<S: Shelf>(
+    alloc: Global,
+    shelf: &mut S,
+    project: &str,
+) -> Result<Spelled, LoadEnd>
+    ensures sources { IfOk result (λ s. WhereTold (S.told shelf.old) (λ files. HasSources files project.now s.sources)) }
+    ensures spelled { IfOk result (λ s. AreSpelled s.sources s.modules s.signature) }
+    ensures refused { IfRefusedIn result (λ file r. WhereTold (S.told shelf.old) (λ files. RefusesFiles files project.now file r)) }
+    ensures shelf { OnShelf result (Rose (S.faults shelf.old) (S.faults shelf.new)) }
+    ensures never_falls { S.faults shelf.old ≤ S.faults shelf.new }
+    ensures kept { S.told shelf.new ≡ S.told shelf.old }
+{
     match load_sources(alloc, shelf, project) {
-        Ok(sources) => program_of(alloc, project, &sources),
+        Ok(sources) => with_trees(alloc, sources),
+        Err(end) => Err(end),
+    }
+}
+
+/// The sources with their trees.
+fn with_trees(alloc: Global, sources: Sources) -> Result<Spelled, LoadEnd>
+    requires modules { AreSmall sources.modules }
+    requires signature { IsSmall sources.signature }
+    ensures sources { IfOk result (λ s. s.sources ≡ sources) }
+    ensures spelled { IfOk result (λ s. AreSpelled s.sources s.modules s.signature) }
+    ensures refused { IfRefusedIn result (RefusesSources sources) }
+    ensures no_shelf { OnShelf result ⊥ }
+{
+    match trees_of(alloc, sources.modules.as_slice()) {
+        Ok(modules) => match signature_tree(alloc, &sources.signature) {
+            Ok(signature) => Ok(Spelled {
+                sources,
+                modules,
+                signature,
+            }),
+            Err(end) => Err(end),
+        },
         Err(end) => Err(end),
     }
 }
@@ -50,7 +102,7 @@ fn load_sources<S: Shelf>(alloc: Global, shelf: &mut S, project: &str) -> Result
     ensures sources { IfOk result (λ sources. WhereTold (S.told shelf.old) (λ files. HasSources files project.now sources)) }
     ensures modules { IfOk result (λ sources. AreSmall sources.modules) }
     ensures signature { IfOk result (λ sources. IsSmall sources.signature) }
-    ensures refused { IfRefusedIn result (λ file r. WhereTold (S.told shelf.old) (λ files. IsRefused files project.now file r)) }
+    ensures refused { IfRefusedIn result (λ file r. WhereTold (S.told shelf.old) (λ files. RefusesFiles files project.now file r)) }
     ensures shelf { OnShelf result (Rose (S.faults shelf.old) (S.faults shelf.new)) }
     ensures never_falls { S.faults shelf.old ≤ S.faults shelf.new }
     ensures kept { S.told shelf.new ≡ S.told shelf.old }
@@ -72,7 +124,7 @@ fn load_names<S: Shelf>(alloc: Global, shelf: &mut S, project: &str) -> Result<L
     ensures words { IfOk result (λ names. IsTrue (list_all is_module_name names)) }
     ensures some { IfOk result (λ names. 0 < length names) }
     ensures few { IfOk result (λ names. length names ≤ module_limit) }
-    ensures refused { IfRefusedIn result (λ file r. WhereTold (S.told shelf.old) (λ files. IsRefused files project.now file r)) }
+    ensures refused { IfRefusedIn result (λ file r. WhereTold (S.told shelf.old) (λ files. RefusesFiles files project.now file r)) }
     ensures shelf { OnShelf result (Rose (S.faults shelf.old) (S.faults shelf.new)) }
     ensures never_falls { S.faults shelf.old ≤ S.faults shelf.new }
     ensures kept { S.told shelf.new ≡ S.told shelf.old }

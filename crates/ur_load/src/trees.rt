@@ -1,10 +1,10 @@
 //! The trees that the bytes of a project's files spell.
-ghost use Rattle.std.specs.Prelude.{◌≡◌, ◌≤◌, length, IfOk, OnOk};
+ghost use Rattle.std.specs.Prelude.{◌≡◌, ◌≤◌, length, IfOk};
 ghost use Rattle.ur_grammar.specs.Places.{IfRefused};
 ghost use Rattle.ur_lex.specs.Lexing.{IsTokens};
 ghost use Rattle.ur_parse_rules.specs.DeclParts.{whole, signature};
-ghost use Rattle.ur_load.specs.Sources.{HasTree, HaveTrees, HasSignatureTree, SignatureIsSpelled, file_limit};
-ghost use Rattle.ur_load.specs.Accepts.{RefusesTokens, RefusesSource};
+ghost use Rattle.ur_load.specs.Sources.{HasTree, HaveTrees, HasSignatureTree, IsSignatureTree, file_limit};
+ghost use Rattle.ur_load.specs.Refuses.{RefusesTokens, RefusesSource};
 ghost use Rattle.ur_load.specs.Loads.{IfRefusedIn, OnShelf, RefusesModules, RefusesSignature, AreSmall, IsSmall, SaysText, IsStopAt};
 
 use crate::load_end::LoadEnd;
@@ -136,18 +136,18 @@ pub fn trees_of(alloc: Global, sources: &[Source]) -> Result<List<Module>, LoadE
     Ok(trees)
 }
 
-/// Reads the signature, where there is one.
-pub fn read_signature(alloc: Global, found: &Option<Source>) -> Result<(), LoadEnd>
+/// The tree of the signature, where there is one.
+pub fn signature_tree(alloc: Global, found: &Option<Source>) -> Result<Option<Signature>, LoadEnd>
     requires { IsSmall found.now }
-    ensures spelled { OnOk result (SignatureIsSpelled found.now) }
+    ensures tree { IfOk result (IsSignatureTree found.now) }
     ensures refused { IfRefusedIn result (RefusesSignature found.now) }
     ensures no_shelf { OnShelf result ⊥ }
 {
     let Some(source) = found else {
-        return Ok(());
+        return Ok(None);
     };
     match signature_of(alloc, source) {
-        Ok(_) => Ok(()),
+        Ok(tree) => Ok(Some(tree)),
         Err(stop) => Err(refused_at(alloc, source, stop)),
     }
 }

@@ -1,8 +1,12 @@
 //! Laws on files.
-ghost use Rattle.std.specs.Prelude.{◌≡◌, ℕ, List, Option};
+ghost use Rattle.std.specs.Prelude.{◌≡◌, ◌⊎◌, ℕ, List, Option, Some, Contains};
 ghost use Rattle.ur_base.specs.declared.refusal.Refusal.{Refusal};
 ghost use Rattle.ur_load.specs.Accepts.{Accepts, Refuses};
+ghost use Rattle.ur_load.specs.Loaded.{IsLoaded, file_at};
+ghost use Rattle.ur_load.specs.Refuses.{RefusesFiles};
+ghost use Rattle.ur_load.specs.declared.loaded.Loaded.{Loaded};
 ghost use Rattle.ur_load.specs.declared.program.Program.{Program};
+ghost use Rattle.ur_load.specs.declared.source.Source.{Source};
 
 /// A project has at most one program.
 pub fn one_program()
@@ -12,4 +16,21 @@ pub fn one_program()
 /// No refusal is one of files that are a program.
 pub fn not_both()
     ensures { (files : List ℕ → Option (List ℕ)) (project : List ℕ) (program : Program) (r : Refusal) → Accepts files project program → Refuses files project r → ⊥ }
+{}
+
+/// The files of a project spell its trees in one way at most.
+pub fn one_project()
+    ensures { (files : List ℕ → Option (List ℕ)) (project : List ℕ) (l m : Loaded) → IsLoaded files project l → IsLoaded files project m → l ≡ m }
+{}
+
+/// No refusal is one of files that spell trees.
+pub fn refused_is_not_loaded()
+    ensures { (files : List ℕ → Option (List ℕ)) (project file : List ℕ) (r : Refusal) (l : Loaded) → RefusesFiles files project file r
+        → IsLoaded files project l → ⊥ }
+{}
+
+/// The number of a source, which places in it carry, leads to its file.
+pub fn numbers_lead_to_files()
+    ensures { (files : List ℕ → Option (List ℕ)) (project : List ℕ) (l : Loaded) (is : IsLoaded files project l) (s : Source)
+        → Contains is.sources.modules s ⊎ (is.sources.signature ≡ Some s) → file_at l s.number ≡ s.file }
 {}

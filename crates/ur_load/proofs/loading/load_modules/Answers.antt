@@ -5,7 +5,7 @@ use Rattle.ur_load.specs.Names.{module_file}
 use Rattle.ur_load.specs.Sources.{AreSources, IsSource}
 use Rattle.ur_load.specs.Loads.{AreSmall}
 use Rattle.ur_load.specs.declared.source.Source.{Source}
-use Rattle.ur_load.proofs.Loaded.{word_at, sources_more, small_more, module_refused, told_before}
+use Rattle.ur_load.proofs.Found.{word_at, sources_more, small_more, module_refused, told_before}
 use Rattle.ur_load.proofs.loading.load_modules.Goals as goal
 
 pub module_source-requires : goal.module_source-requires

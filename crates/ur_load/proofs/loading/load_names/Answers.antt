@@ -1,6 +1,6 @@
 -- What the project file names.
 use Rattle.std.proofs.Common.{ℕ, List, string_bytes, ◌∙◌}
-use Rattle.ur_load.proofs.Loaded.{names_found, words_found, some_found, project_bad, project_lacks, no_fault}
+use Rattle.ur_load.proofs.Found.{names_found, words_found, some_found, project_bad, project_lacks, no_fault}
 use Rattle.ur_load.proofs.loading.load_names.Goals as goal
 
 pub returns-in-Ok-clause-names : goal.returns-in-Ok-clause-names

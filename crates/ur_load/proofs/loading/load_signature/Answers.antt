@@ -4,7 +4,7 @@ use Rattle.ur_base.specs.Told.{WhereTold}
 use Rattle.ur_load.specs.Names.{signature_file, main_of}
 use Rattle.ur_load.specs.Sources.{IsTooLong}
 use Rattle.ur_load.specs.declared.source.Source.{Source}
-use Rattle.ur_load.proofs.Loaded.{renamed}
+use Rattle.ur_load.proofs.Found.{renamed}
 use Rattle.ur_load.proofs.loading.load_signature.Goals as goal
 
 pub returns-in-Err-clause-refused : goal.returns-in-Err-clause-refused

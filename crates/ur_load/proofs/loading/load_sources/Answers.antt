@@ -3,7 +3,7 @@ use Rattle.std.proofs.Common.{List, Option, ◌∙◌}
 use Rattle.ur_load.specs.Names.{main_of, signature_file}
 use Rattle.ur_load.specs.declared.source.Source.{Source}
 use Rattle.ur_load.specs.declared.source.Sources.{Sources}
-use Rattle.ur_load.proofs.Loaded.{modules_refused, signature_refused, sources_before, lacks_before, long_before}
+use Rattle.ur_load.proofs.Found.{modules_refused, signature_refused, sources_before, lacks_before, long_before}
 use Rattle.ur_load.proofs.loading.load_sources.Goals as goal
 
 pub returns-in-Err-clause-refused : goal.returns-in-Err-clause-refused

@@ -4,7 +4,7 @@ use Rattle.ur_base.specs.Told.{WhereTold}
 use Rattle.ur_load.specs.Names.{module_file}
 use Rattle.ur_load.specs.Sources.{Lacks}
 use Rattle.ur_load.specs.declared.source.Source.{Source}
-use Rattle.ur_load.proofs.Loaded.{renamed, source_made}
+use Rattle.ur_load.proofs.Found.{renamed, source_made}
 use Rattle.ur_load.proofs.loading.module_source.Goals as goal
 
 pub returns-in_ok-source-in-Ok-clause-source : goal.returns-in_ok-source-in-Ok-clause-source

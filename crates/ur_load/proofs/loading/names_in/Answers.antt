@@ -1,7 +1,7 @@
 -- The project file's refusal.
 use Rattle.std.proofs.Common.{◌≡◌, ℕ, List, subst, rules}
 use Rattle.ur_load.specs.Loads.{IsStopIn}
-use Rattle.ur_load.proofs.Loaded.{stop_refused, stop_no_fault}
+use Rattle.ur_load.proofs.Found.{stop_refused, stop_no_fault}
 use Rattle.ur_load.proofs.loading.names_in.Goals as goal
 
 pub returns-in-Err-clause-refused : goal.returns-in-Err-clause-refused

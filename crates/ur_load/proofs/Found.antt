@@ -10,14 +10,19 @@ use Rattle.ur_base.specs.declared.refusal.Refusal.{Refusal}
 use Rattle.ur_base.specs.declared.refusal.Stop.{Stop}
 use Rattle.ur_base.specs.declared.refusal.Stop.TheVariants as stop
 use Rattle.ur_io.specs.Files.{Files}
+use Rattle.ur_syntax.specs.declared.decl.Module.{Module}
+use Rattle.ur_syntax.specs.declared.decl.Signature.{Signature}
 use Rattle.ur_page.specs.Words.{is_module_name}
 use Rattle.ur_project.specs.Project.{IsProject, RefusesProject, module_limit}
 use Rattle.ur_load.specs.Names.{project_file, module_file, signature_file, main_of}
-use Rattle.ur_load.specs.Sources.{HasFile, IsTooLong, Lacks, NamesModules, AreThere, IsSource, AreSources, HasSignature, HasSources}
-use Rattle.ur_load.specs.Accepts.{IsProgram, Accepts, RefusesSources, IsRefused}
+use Rattle.ur_load.specs.Sources.{HasFile, IsTooLong, Lacks, NamesModules, AreThere, IsSource, AreSources, HasSignature, HasSources, HaveTrees, AreSpelled}
+use Rattle.ur_load.specs.Refuses.{RefusesSources, RefusesFiles}
+use Rattle.ur_load.specs.Accepts.{program_of, Accepts, IsUnbuilt, IsRefused}
 use Rattle.ur_load.specs.Loads.{IfRefusedIn, OnShelf, IsStopIn, HasIfThere, LacksModule, AreSmall}
+use Rattle.ur_load.specs.Loaded.{IsLoaded, IsLoadedFrom, names_of}
 use Rattle.ur_load.specs.declared.load_end.LoadEnd.{LoadEnd}
 use Rattle.ur_load.specs.declared.load_end.LoadEnd.TheVariants.{Refused, Shelf, Memory}
+use Rattle.ur_load.specs.declared.loaded.Loaded.{Loaded}
 use Rattle.ur_load.specs.declared.program.Program.{Program}
 use Rattle.ur_load.specs.declared.source.Source.{Source}
 use Rattle.ur_load.specs.declared.source.Sources.{Sources}
@@ -40,12 +45,12 @@ no_fault P (Err Memory) h = tt
 
 pub project_lacks : (A B : Type 0) (told : Option Files) (project file : List ℕ) (end : LoadEnd) → file ≡ project_file project
     → IfRefusedIn {A = A} (Err end) (λ at' r. (at' ≡ file) × WhereTold told (λ files. Lacks files file r))
-    → IfRefusedIn {A = B} (Err end) (λ at' r. WhereTold told (λ files. IsRefused files project at' r))
+    → IfRefusedIn {A = B} (Err end) (λ at' r. WhereTold told (λ files. RefusesFiles files project at' r))
 project_lacks A B told project file end is h = weaker A B (λ at' r. (at' ≡ file) × WhereTold told (λ files. Lacks files file r))
-    (λ at' r. WhereTold told (λ files. IsRefused files project at' r)) end (λ at' r (same, w). of told at' r (same ∙ is) (subst (λ z. WhereTold told (λ files. Lacks files z r)) is w)) h where
-      of : (o : Option Files) (at' : List ℕ) (r : Refusal) → at' ≡ project_file project → WhereTold o (λ files. Lacks files (project_file project) r) → WhereTold o (λ files. IsRefused files project at' r)
+    (λ at' r. WhereTold told (λ files. RefusesFiles files project at' r)) end (λ at' r (same, w). of told at' r (same ∙ is) (subst (λ z. WhereTold told (λ files. Lacks files z r)) is w)) h where
+      of : (o : Option Files) (at' : List ℕ) (r : Refusal) → at' ≡ project_file project → WhereTold o (λ files. Lacks files (project_file project) r) → WhereTold o (λ files. RefusesFiles files project at' r)
       of None at' r same w = tt
-      of (Some files) at' r same w = rw same (IsRefused.no_project r w)
+      of (Some files) at' r same w = rw same (RefusesFiles.no_project r w)
 
 pub stop_refused : (A B : Type 0) (file bytes : List ℕ) (s : Stop) (end : LoadEnd) → IfRefused {A = A} (Err s) (RefusesProject file bytes) → IsStopIn file s end
     → IfRefusedIn {A = B} (Err end) (λ at' r. (at' ≡ file) × RefusesProject file bytes r)
@@ -62,13 +67,13 @@ stop_no_fault A P file stop.Memory Shelf says = absurd says
 
 pub project_bad : {A : Type 0} (told : Option Files) (project file bytes : List ℕ) (r : Result A LoadEnd) → file ≡ project_file project
     → WhereTold told (λ files. HasFile files file bytes) → IfRefusedIn r (λ at' q. (at' ≡ file) × RefusesProject file bytes q)
-    → IfRefusedIn r (λ at' q. WhereTold told (λ files. IsRefused files project at' q))
+    → IfRefusedIn r (λ at' q. WhereTold told (λ files. RefusesFiles files project at' q))
 project_bad told project file bytes (Ok a) is has h = tt
 project_bad told project file bytes (Err Shelf) is has h = tt
 project_bad told project file bytes (Err Memory) is has h = tt
 project_bad None project file bytes (Err (Refused at' q)) is has h = tt
 project_bad (Some files) project file bytes (Err (Refused at' q)) is has (same, why) =
-    rw (same ∙ is) (IsRefused.bad_project bytes q (subst (λ z. HasFile files z bytes) is has) (subst (λ z. RefusesProject z bytes q) is why))
+    rw (same ∙ is) (RefusesFiles.bad_project bytes q (subst (λ z. HasFile files z bytes) is has) (subst (λ z. RefusesProject z bytes q) is why))
 
 pub names_are : (told : Option Files) (project file bytes : List ℕ) (names : List (List ℕ)) → file ≡ project_file project → WhereTold told (λ files. HasFile files file bytes)
     → IsProject bytes names → length names ≤ module_limit → WhereTold told (λ files. NamesModules files project names)
@@ -167,26 +172,26 @@ no_signature (Some files) project names file f h = subst (λ z. files z ≡ None
 
 pub modules_refused : (A B : Type 0) (told : Option Files) (project : List ℕ) (names : List (List ℕ)) (end : LoadEnd) → WhereTold told (λ files. NamesModules files project names)
     → IfRefusedIn {A = A} (Err end) (λ file r. WhereTold told (λ files. LacksModule files project names file r))
-    → IfRefusedIn {A = B} (Err end) (λ file r. WhereTold told (λ files. IsRefused files project file r))
+    → IfRefusedIn {A = B} (Err end) (λ file r. WhereTold told (λ files. RefusesFiles files project file r))
 modules_refused A B told project names end named h = weaker A B (λ file r. WhereTold told (λ files. LacksModule files project names file r))
-    (λ file r. WhereTold told (λ files. IsRefused files project file r)) end (λ file r w. of told file r named w) h where
+    (λ file r. WhereTold told (λ files. RefusesFiles files project file r)) end (λ file r w. of told file r named w) h where
       of : (o : Option Files) (file : List ℕ) (r : Refusal) → WhereTold o (λ files. NamesModules files project names)
-          → WhereTold o (λ files. LacksModule files project names file r) → WhereTold o (λ files. IsRefused files project file r)
+          → WhereTold o (λ files. LacksModule files project names file r) → WhereTold o (λ files. RefusesFiles files project file r)
       of None file r named w = tt
-      of (Some files) file r named w = subst (λ z. IsRefused files project z r) (sym w.file_is)
-          (IsRefused.no_file w.before w.behind w.name r (subst (λ z. NamesModules files project z) w.stands named) w.there (subst (λ z. Lacks files z r) w.file_is w.lacks))
+      of (Some files) file r named w = subst (λ z. RefusesFiles files project z r) (sym w.file_is)
+          (RefusesFiles.no_file w.before w.behind w.name r (subst (λ z. NamesModules files project z) w.stands named) w.there (subst (λ z. Lacks files z r) w.file_is w.lacks))
 
 pub signature_refused : (A B : Type 0) (told : Option Files) (project : List ℕ) (names : List (List ℕ)) (sources : List Source) (end : LoadEnd)
     → WhereTold told (λ files. NamesModules files project names) → WhereTold told (λ files. AreSources files project 1 names sources)
     → IfRefusedIn {A = A} (Err end) (λ at' r. (at' ≡ signature_file project (main_of names)) × WhereTold told (λ files. IsTooLong files (signature_file project (main_of names)) r))
-    → IfRefusedIn {A = B} (Err end) (λ file r. WhereTold told (λ files. IsRefused files project file r))
+    → IfRefusedIn {A = B} (Err end) (λ file r. WhereTold told (λ files. RefusesFiles files project file r))
 signature_refused A B told project names sources end named are h = weaker A B
     (λ at' r. (at' ≡ signature_file project (main_of names)) × WhereTold told (λ files. IsTooLong files (signature_file project (main_of names)) r))
-    (λ file r. WhereTold told (λ files. IsRefused files project file r)) end (λ file r (same, w). of told file r named are same w) h where
+    (λ file r. WhereTold told (λ files. RefusesFiles files project file r)) end (λ file r (same, w). of told file r named are same w) h where
       of : (o : Option Files) (file : List ℕ) (r : Refusal) → WhereTold o (λ files. NamesModules files project names) → WhereTold o (λ files. AreSources files project 1 names sources)
-          → file ≡ signature_file project (main_of names) → WhereTold o (λ files. IsTooLong files (signature_file project (main_of names)) r) → WhereTold o (λ files. IsRefused files project file r)
+          → file ≡ signature_file project (main_of names) → WhereTold o (λ files. IsTooLong files (signature_file project (main_of names)) r) → WhereTold o (λ files. RefusesFiles files project file r)
       of None file r named are same w = tt
-      of (Some files) file r named are same w = rw same (IsRefused.long_signature names r named (there_all files project 1 names sources are) w)
+      of (Some files) file r named are same w = rw same (RefusesFiles.long_signature names r named (there_all files project 1 names sources are) w)
 
 pub has_sources : (told : Option Files) (project : List ℕ) (names : List (List ℕ)) (modules : List Source) (signature : Option Source) → WhereTold told (λ files. NamesModules files project names)
     → WhereTold told (λ files. AreSources files project 1 names modules) → WhereTold told (λ files. HasSignature files project names signature)
@@ -194,23 +199,57 @@ pub has_sources : (told : Option Files) (project : List ℕ) (names : List (List
 has_sources None project names modules signature named are has = tt
 has_sources (Some files) project names modules signature named are has = record { names = names; named = named; modules = are; signature = has }
 
-pub accepted : (told : Option Files) (project : List ℕ) (sources : Sources) (program : Program) → WhereTold told (λ files. HasSources files project sources) → IsProgram sources program
-    → WhereTold told (λ files. Accepts files project program)
-accepted None project sources program has is = tt
-accepted (Some files) project sources program has is = record { sources = sources; has = has; is = is }
-
 pub sources_refused : {A : Type 0} (told : Option Files) (project : List ℕ) (sources : Sources) (r : Result A LoadEnd) → WhereTold told (λ files. HasSources files project sources)
-    → IfRefusedIn r (RefusesSources project sources) → IfRefusedIn r (λ file q. WhereTold told (λ files. IsRefused files project file q))
+    → IfRefusedIn r (RefusesSources sources) → IfRefusedIn r (λ file q. WhereTold told (λ files. RefusesFiles files project file q))
 sources_refused told project sources (Ok a) has h = tt
 sources_refused told project sources (Err Shelf) has h = tt
 sources_refused told project sources (Err Memory) has h = tt
 sources_refused None project sources (Err (Refused file q)) has h = tt
-sources_refused (Some files) project sources (Err (Refused file q)) has h = IsRefused.of_sources sources file q has h
+sources_refused (Some files) project sources (Err (Refused file q)) has h = RefusesFiles.of_sources sources file q has h
 
-pub program_found : (told : Option Files) (project : List ℕ) (sources : Sources) (r : Result Program LoadEnd) → WhereTold told (λ files. HasSources files project sources)
-    → IfOk r (IsProgram sources) → IfOk r (λ program. WhereTold told (λ files. Accepts files project program))
-program_found told project sources (Ok program) has is = accepted told project sources program has is
-program_found told project sources (Err end) has is = tt
+-- ---- the program
+
+pub program_found : (told : Option Files) (project : List ℕ) (sources : Sources) (trees : List Module) (signature : Option Signature) (r : Result Program LoadEnd)
+    → WhereTold told (λ files. HasSources files project sources) → AreSpelled sources trees signature → IfOk r (λ program. program_of sources trees ≡ Some program)
+    → IfOk r (λ program. WhereTold told (λ files. Accepts files project program))
+program_found told project sources trees signature (Err end) has spelled is = tt
+program_found None project sources trees signature (Ok program) has spelled is = tt
+program_found (Some files) project sources trees signature (Ok program) has spelled is =
+    record { sources = sources; has = has; is = record { trees = trees; spelled = spelled.modules; is = is } }
+
+pub trees_refused : (A B : Type 0) (told : Option Files) (project : List ℕ) (end : LoadEnd) → IfRefusedIn {A = A} (Err end) (λ file r. WhereTold told (λ files. RefusesFiles files project file r))
+    → IfRefusedIn {A = B} (Err end) (λ file r. WhereTold told (λ files. IsRefused files project file r))
+trees_refused A B told project end h = weaker A B (λ file r. WhereTold told (λ files. RefusesFiles files project file r)) (λ file r. WhereTold told (λ files. IsRefused files project file r)) end
+    (λ file r w. of told file r w) h where
+      of : (o : Option Files) (file : List ℕ) (r : Refusal) → WhereTold o (λ files. RefusesFiles files project file r) → WhereTold o (λ files. IsRefused files project file r)
+      of None file r w = tt
+      of (Some files) file r w = IsRefused.no_trees w
+
+pub form_refused : {A : Type 0} (told : Option Files) (project : List ℕ) (sources : Sources) (trees : List Module) (signature : Option Signature) (r : Result A LoadEnd)
+    → WhereTold told (λ files. HasSources files project sources) → AreSpelled sources trees signature → IfRefusedIn r (IsUnbuilt project sources trees)
+    → IfRefusedIn r (λ file q. WhereTold told (λ files. IsRefused files project file q))
+form_refused told project sources trees signature (Ok a) has spelled h = tt
+form_refused told project sources trees signature (Err Shelf) has spelled h = tt
+form_refused told project sources trees signature (Err Memory) has spelled h = tt
+form_refused None project sources trees signature (Err (Refused file q)) has spelled h = tt
+form_refused (Some files) project sources trees signature (Err (Refused file q)) has spelled h = IsRefused.not_built sources trees signature has spelled h
+
+-- ---- what is loaded
+
+pub loaded_is : (told : Option Files) (project : List ℕ) (sources : Sources) (l : Loaded) → WhereTold told (λ files. HasSources files project sources) → IsLoadedFrom project sources l
+    → WhereTold told (λ files. IsLoaded files project l)
+loaded_is None project sources l has is = tt
+loaded_is (Some files) project sources l has is = record { sources = sources; has = has; from_sources = is }
+
+as_many : (sources : List Source) (trees : List Module) → HaveTrees sources trees → length (names_of sources) ≡ length trees
+as_many [] [] h = refl
+as_many [] (tree ∷ trees) h = absurd h
+as_many (s ∷ sources) [] h = absurd h
+as_many (s ∷ sources) (tree ∷ trees) (h, rest) = ap suc (as_many sources trees rest)
+
+-- as many names as trees
+pub named : (project : List ℕ) (sources : Sources) (l : Loaded) → IsLoadedFrom project sources l → length l.names ≡ length l.modules
+named project sources l is = ap length is.names ∙ as_many sources.modules l.modules is.spelled.modules
 
 -- ---- words and told files of a loop
 
