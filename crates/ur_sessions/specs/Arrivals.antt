@@ -1,5 +1,5 @@
 -- What comes on a connection.
-use Rattle.std.specs.Prelude.{◌≡◌, ℕ, List, [], ◌++◌, Option, None, IsTrue, ⊤}
+use Rattle.std.specs.Prelude.{◌≡◌, ◌≤◌, ℕ, List, [], ◌++◌, length, Option, None, IsTrue, ⊤}
 use Rattle.ur_base.specs.Told.{Tells}
 use Rattle.ur_io.specs.Traffic.{Traffic}
 use Rattle.ur_io.specs.declared.session.Why.{Why}
@@ -14,6 +14,10 @@ use Rattle.ur_sessions.specs.Items.{Ends}
 -- nothing was given, and no connection was taken
 abbrev pub HasGiven : Traffic → Traffic → Type 0
 HasGiven t u = (u.given ≡ t.given) × (u.coming ≡ t.coming)
+
+-- at most so many bytes were taken from the front of the input
+abbrev pub HasTaken : ℕ → Traffic → Traffic → Type 0
+HasTaken most t u = (front : List ℕ) × (t.left ≡ front ++ u.left) × (length front ≤ most)
 
 -- The input ended so, with these bytes not yet asked for, or the wire failed.
 abbrev pub InputEnds : List ℕ → List ℕ → Why → Type 0

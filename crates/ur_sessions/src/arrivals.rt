@@ -3,7 +3,7 @@ ghost use Rattle.std.specs.Prelude.{◌≡◌, ◌≢◌, ◌≤◌, ◌<◌, �
 ghost use Rattle.ur_base.specs.Counts.{Rose, CountsFaults};
 ghost use Rattle.ur_base.specs.Told.{WhereTold, Tells};
 ghost use Rattle.ur_http.specs.Items.{Begins, more, greatest_request};
-ghost use Rattle.ur_sessions.specs.Arrivals.{ComesOn, IsFed, IsAnswerable, IsTextArrival};
+ghost use Rattle.ur_sessions.specs.Arrivals.{HasTaken, ComesOn, IsFed, IsAnswerable, IsTextArrival};
 
 use ur_http::{HttpRequest, Item, Splitter};
 use ur_io::{Failed, Why, Wire};
@@ -27,6 +27,7 @@ pub(crate) fn next_arrival<W: Wire>(
     requires buffer { 0 < length buffer.old }
     requires open { splitter.old.refused ≡ None }
     ensures comes { WhereTold (W.told wire.old) (λ t. ComesOn splitter.old.left splitter.new.left result t (W.told wire.new)) }
+    ensures taken { WhereTold (W.told wire.old) (λ t. Tells (W.told wire.new) (HasTaken greatest_request t)) }
     ensures answerable { IsAnswerable result splitter.new.refused }
     ensures text { IsTextArrival result }
     ensures wire { result ≡ Arrival.Ended Why.Wire → Rose (W.faults wire.old) (W.faults wire.new) }
@@ -67,6 +68,7 @@ fn fill<W: Wire>(wire: &mut W, splitter: &mut Splitter, buffer: &mut [u8]) -> Re
     requires buffer { 0 < length buffer.old }
     requires more { Begins splitter.old.left more }
     ensures fed { WhereTold (W.told wire.old) (λ t. IfOk result (λ n. Tells (W.told wire.new) (IsFed t n splitter.old.left splitter.new.left))) }
+    ensures taken { WhereTold (W.told wire.old) (λ t. IfOk result (λ n. Tells (W.told wire.new) (HasTaken n t))) }
     ensures err { OnErr result ((W.told wire.new ≡ W.told wire.old) × (splitter.new ≡ splitter.old)) }
     ensures grown { IfOk result (λ n. length splitter.new.left ≡ length splitter.old.left + n) }
     ensures fits { IfOk result (λ _. length splitter.new.left ≤ greatest_request) }

@@ -134,12 +134,14 @@ impl<R: Net + Drop> Wire for TcpWire<R> {
     }
 }
 
-/// The next connection. A call on it waits for one second at most.
+/// The next connection. A call on it waits for one second at most, and what is written goes out at once: else small answers could
+/// wait behind others, and be lost where the connection is closed with some of its input unread.
 fn accept<L: OpenListener<Stream: OpenStream>>(listener: &L) -> io::Result<L::Stream> {
     let (stream, _) = listener.accept()?;
     let second = Some(Duration::from_secs(1));
     stream.set_read_timeout(second)?;
     stream.set_write_timeout(second)?;
+    let _ = stream.set_nodelay(true);
     Ok(stream)
 }
 

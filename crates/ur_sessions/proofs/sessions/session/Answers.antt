@@ -1,4 +1,4 @@
-use Rattle.std.proofs.Common.{◌≡◌, suc, ◌+◌, ◌-◌, ◌==◌, [], ◌∷◌, ◌++◌, length, All, Any, None, Some, inl, inr, refl, sym, ap, subst, ◌∙◌, arith, length-append}
+use Rattle.std.proofs.Common.{◌≡◌, suc, ◌+◌, ◌-◌, ◌*◌, ◌==◌, [], ◌∷◌, ◌++◌, length, All, Any, None, Some, inl, inr, refl, sym, ap, subst, ◌∙◌, arith, length-append}
 use Rattle.std.proofs.lemmas.Bool.Decides.{nat_tests}
 use Rattle.std.proofs.lemmas.List.Elements.{All-nil, All-push}
 use Rattle.ur_base.specs.Rooms.{RoomOf}
@@ -6,9 +6,11 @@ use Rattle.ur_base.specs.Told.{WhereTold}
 use Rattle.ur_io.specs.declared.session.Mark.{Mark}
 use Rattle.ur_io.specs.declared.session.Mark.TheVariants as mark
 use Rattle.ur_io.specs.declared.session.SessionEnd.{SessionEnd}
+use Rattle.ur_http.specs.Items.{greatest_request}
 use Rattle.ur_sessions.specs.declared.arrivals.Arrival.TheVariants as arrival
 use Rattle.ur_sessions.specs.Saying.{mark_of, closes_of, bytes_of, Says, IsOver}
 use Rattle.ur_sessions.proofs.Rounds.{InSession, HasSession, in_session-none, in_session-more, has_session-over, has_session-ended, wired_none, over_not_ended, goes_on_done, not_full, keeper_last, rose_later, last_is, wired_more, wired_ended, answerable_on}
+use Rattle.ur_sessions.proofs.Taking.{taken_none, taken_ended, taken_round, all_before, last_said}
 use Rattle.ur_sessions.proofs.sessions.session.Goals as goal
 
 pub loop-why-init : goal.loop-why-init
@@ -29,6 +31,7 @@ loop-why-init g c =
       done = subst (All (λ m. m ≡ mark.Done)) (sym c.requires.room.0) (All-nil (λ m. m ≡ mark.Done));
       ready = λ bound n r. subst (λ k. g.A.Responder.is_ready bound c.args.responder.now c.args.keeper.now k) (omega (arith, none)) r;
       wired = wired_none told;
+      taken = taken_none told (length c.args.marks.items * greatest_request);
       sofar = subst (InSession answers reaches g.A.Responder.kept c.args.most told state told state c.clear.new.self.left) (sym c.requires.room.0)
           (in_session-none answers reaches g.A.Responder.kept c.args.most told state c.clear.new.self.left (ap (λ s. s.left) c.clear.ensures));
     }
@@ -53,6 +56,16 @@ pub returns-in-Ended-clause-coming : goal.returns-in-Ended-clause-coming
 returns-in-Ended-clause-coming g c =
     wired_ended (g.W.Wire.told c.args.wire.now) (g.W.Wire.told c.loop-why.wire) (g.W.Wire.told c.next_arrival-arrival.new.wire) c.loop-why.splitter.left c.next_arrival-arrival.new.splitter.left
     (arrival.Ended c.in-Ended.why) c.loop-why.invariant.wired c.in-Ended.ensures.comes
+
+pub returns-in-Ended-clause-last : goal.returns-in-Ended-clause-last
+returns-in-Ended-clause-last g c =
+    let all : c.ended.result.marks ≡ c.loop-why.marks.items = ap (λ (e : SessionEnd). e.marks) c.ended.ensures in
+    λ before m is. all_before c.loop-why.marks.items before m c.loop-why.invariant.done (sym all ∙ is)
+
+pub returns-in-Ended-clause-taken : goal.returns-in-Ended-clause-taken
+returns-in-Ended-clause-taken g c =
+    taken_ended (g.W.Wire.told c.args.wire.now) (g.W.Wire.told c.loop-why.wire) (g.W.Wire.told c.next_arrival-arrival.new.wire) (length c.loop-why.marks.items) c.args.most greatest_request
+    c.loop-why.invariant.taken c.in-Ended.ensures.taken c.loop-why.invariant.short
 
 pub reply-said-requires : goal.reply-said-requires
 reply-said-requires g c = record {
@@ -111,6 +124,8 @@ returns-in-Some g c =
       current = c.in-Some.ensures.current;
       few = omega (arith, count, so.short);
       coming = wired_more told0 told1 told2 told3 held held' (bytes_of what) came (Some c.in-Some.why) so.wired c.next_arrival-arrival.ensures.comes c.in-Some.ensures.writes;
+      last = λ before m is. last_said marks (mark_of what) before m so.done (sym all ∙ is);
+      taken = taken_round told0 told1 told2 told3 (bytes_of what) (Some c.in-Some.why) (length marks) most greatest_request so.taken c.next_arrival-arrival.ensures.taken c.in-Some.ensures.writes so.short;
       ready = λ bound n r. c.reply-said.ensures.ready bound n (so.ready bound (suc n)
           (subst (λ k. g.A.Responder.is_ready bound c.args.responder.now c.args.keeper.now k) (omega (arith, count)) r));
       same = c.reply-said.ensures.same ∙ so.same;
@@ -156,6 +171,8 @@ loop-why-preserved g c =
       ready = λ bound n r. c.reply-said.ensures.ready bound n (so.ready bound (suc n)
           (subst (λ k. g.A.Responder.is_ready bound c.args.responder.now c.args.keeper.now k) (omega (arith, long)) r));
       wired = wired_more told0 told1 told2 told3 held held' (bytes_of what) came None so.wired c.next_arrival-arrival.ensures.comes c.in-None.ensures.writes;
+      taken = taken_round told0 told1 told2 told3 (bytes_of what) None (length marks) (length c.say-over.new.marks.items) greatest_request so.taken c.next_arrival-arrival.ensures.taken
+          c.in-None.ensures.writes (omega (arith, long));
       sofar = subst (InSession answers reaches kept most told0 state0 told3 state2 held') (sym set)
           (in_session-more answers reaches kept most told0 told1 told2 told3 state0 state1 state2 held held' marks came what (length c.say-over.new.marks.items == most)
           so.sofar c.next_arrival-arrival.ensures.comes so.short says c.in-None.ensures.writes c.in-None.ensures.over);
