@@ -1,4 +1,4 @@
-//! Worked cases of tokens and of the grammar, of names, of kinds, of files of projects and of whole runs. docs/CASES.md has the form of a case.
+//! Worked cases of tokens and of the grammar, of names, of kinds and of files of projects. docs/CASES.md has the form of a case.
 #![tactic(auto)]
 
 mod cons;
@@ -12,7 +12,6 @@ mod outcome;
 mod pats;
 mod projects;
 mod reading;
-mod runs;
 mod sql;
 mod subject;
 
@@ -23,7 +22,7 @@ use std::process::ExitCode;
 use subject::Subject;
 use ur_base::{Memory, Text};
 
-/// The parts of the grammar, the steps of names and of kinds, files of projects, and runs.
+/// The parts of the grammar, the steps of names and of kinds, and files of projects.
 struct Grammar;
 
 impl Subjects for Grammar {

@@ -3,7 +3,6 @@ use crate::ends::{end, token};
 use crate::files::project;
 use crate::projects::{put_place, step_outcome};
 use crate::reading::read;
-use crate::runs::run_outcome;
 use crate::subject::{Part, Subject};
 use case_files::Printer;
 use std::alloc::Global;
@@ -25,7 +24,6 @@ fn came(alloc: Global, subject: Subject, text: &str, p: &mut Printer) -> Result<
         Subject::End(part) => end(alloc, part, text, p),
         Subject::Token => token(alloc, text, p),
         Subject::Project => project(alloc, text, p),
-        Subject::Run => Ok(run_outcome(alloc, text, p)?),
     }
 }
 
@@ -51,9 +49,7 @@ fn stopped(alloc: Global, subject: Subject, text: &str, stop: &Stop) -> Result<T
             match subject {
                 Subject::Part(_) => put_bytes(text, refusal, &mut p),
                 Subject::Step(_) => put_place(text, refusal, &mut p),
-                Subject::End(_) | Subject::Token | Subject::Project | Subject::Run => {
-                    put_line(refusal, &mut p)
-                }
+                Subject::End(_) | Subject::Token | Subject::Project => put_line(refusal, &mut p),
             }
         }
     }

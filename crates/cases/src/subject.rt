@@ -10,8 +10,6 @@ pub enum Subject {
     Token,
     /// the modules that a file of a project names
     Project,
-    /// what a whole run comes to
-    Run,
 }
 
 /// A part of the grammar.
@@ -56,7 +54,6 @@ impl Subject {
             "kinds" => Some(Subject::Step(Step::Kinds)),
             "token" => Some(Subject::Token),
             "project" => Some(Subject::Project),
-            "run" => Some(Subject::Run),
             _ => part_of_word(word),
         }
     }

@@ -11,19 +11,16 @@ use Rattle.ur_base.specs.declared.refusal.Stop.{Stop}
 use Rattle.ur_base.specs.declared.refusal.Stop.TheVariants as stop
 use Rattle.ur_io.specs.Files.{Files}
 use Rattle.ur_syntax.specs.declared.decl.Module.{Module}
-use Rattle.ur_syntax.specs.declared.decl.Signature.{Signature}
-use Rattle.ur_page.specs.Words.{is_module_name}
+use Rattle.ur_project.specs.Words.{is_module_name}
 use Rattle.ur_project.specs.Project.{IsProject, RefusesProject, module_limit}
 use Rattle.ur_load.specs.Names.{project_file, module_file, signature_file, main_of}
-use Rattle.ur_load.specs.Sources.{HasFile, IsTooLong, Lacks, NamesModules, AreThere, IsSource, AreSources, HasSignature, HasSources, HaveTrees, AreSpelled}
+use Rattle.ur_load.specs.Sources.{HasFile, IsTooLong, Lacks, NamesModules, AreThere, IsSource, AreSources, HasSignature, HasSources, HaveTrees}
 use Rattle.ur_load.specs.Refuses.{RefusesSources, RefusesFiles}
-use Rattle.ur_load.specs.Accepts.{program_of, Accepts, IsUnbuilt, IsRefused}
 use Rattle.ur_load.specs.Loads.{IfRefusedIn, OnShelf, IsStopIn, HasIfThere, LacksModule, AreSmall}
 use Rattle.ur_load.specs.Loaded.{IsLoaded, IsLoadedFrom, names_of}
 use Rattle.ur_load.specs.declared.load_end.LoadEnd.{LoadEnd}
 use Rattle.ur_load.specs.declared.load_end.LoadEnd.TheVariants.{Refused, Shelf, Memory}
 use Rattle.ur_load.specs.declared.loaded.Loaded.{Loaded}
-use Rattle.ur_load.specs.declared.program.Program.{Program}
 use Rattle.ur_load.specs.declared.source.Source.{Source}
 use Rattle.ur_load.specs.declared.source.Sources.{Sources}
 
@@ -206,33 +203,6 @@ sources_refused told project sources (Err Shelf) has h = tt
 sources_refused told project sources (Err Memory) has h = tt
 sources_refused None project sources (Err (Refused file q)) has h = tt
 sources_refused (Some files) project sources (Err (Refused file q)) has h = RefusesFiles.of_sources sources file q has h
-
--- ---- the program
-
-pub program_found : (told : Option Files) (project : List ℕ) (sources : Sources) (trees : List Module) (signature : Option Signature) (r : Result Program LoadEnd)
-    → WhereTold told (λ files. HasSources files project sources) → AreSpelled sources trees signature → IfOk r (λ program. program_of sources trees ≡ Some program)
-    → IfOk r (λ program. WhereTold told (λ files. Accepts files project program))
-program_found told project sources trees signature (Err end) has spelled is = tt
-program_found None project sources trees signature (Ok program) has spelled is = tt
-program_found (Some files) project sources trees signature (Ok program) has spelled is =
-    record { sources = sources; has = has; is = record { trees = trees; spelled = spelled.modules; is = is } }
-
-pub trees_refused : (A B : Type 0) (told : Option Files) (project : List ℕ) (end : LoadEnd) → IfRefusedIn {A = A} (Err end) (λ file r. WhereTold told (λ files. RefusesFiles files project file r))
-    → IfRefusedIn {A = B} (Err end) (λ file r. WhereTold told (λ files. IsRefused files project file r))
-trees_refused A B told project end h = weaker A B (λ file r. WhereTold told (λ files. RefusesFiles files project file r)) (λ file r. WhereTold told (λ files. IsRefused files project file r)) end
-    (λ file r w. of told file r w) h where
-      of : (o : Option Files) (file : List ℕ) (r : Refusal) → WhereTold o (λ files. RefusesFiles files project file r) → WhereTold o (λ files. IsRefused files project file r)
-      of None file r w = tt
-      of (Some files) file r w = IsRefused.no_trees w
-
-pub form_refused : {A : Type 0} (told : Option Files) (project : List ℕ) (sources : Sources) (trees : List Module) (signature : Option Signature) (r : Result A LoadEnd)
-    → WhereTold told (λ files. HasSources files project sources) → AreSpelled sources trees signature → IfRefusedIn r (IsUnbuilt project sources trees)
-    → IfRefusedIn r (λ file q. WhereTold told (λ files. IsRefused files project file q))
-form_refused told project sources trees signature (Ok a) has spelled h = tt
-form_refused told project sources trees signature (Err Shelf) has spelled h = tt
-form_refused told project sources trees signature (Err Memory) has spelled h = tt
-form_refused None project sources trees signature (Err (Refused file q)) has spelled h = tt
-form_refused (Some files) project sources trees signature (Err (Refused file q)) has spelled h = IsRefused.not_built sources trees signature has spelled h
 
 -- ---- what is loaded
 

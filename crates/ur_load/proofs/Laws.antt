@@ -1,4 +1,4 @@
--- The files of a project spell its trees in one way at most and are one program at most, and no refusal of them holds where they are.
+-- The files of a project spell its trees in one way at most, and no refusal of them holds where they do.
 use Rattle.std.proofs.Common.{◌≡◌, ℕ, suc, ◌≤◌, List, [], ◌∷◌, ◌++◌, length, Option, Some, None, refl, sym, ap, subst, ◌∙◌, arith}
 use Rattle.ur_base.specs.declared.refusal.Refusal.{Refusal}
 use Rattle.ur_io.specs.Files.{Files}
@@ -19,9 +19,7 @@ use Rattle.ur_load.specs.Names.{project_file, module_file, signature_file, main_
 use Rattle.ur_load.specs.Sources.{HasFile, IsThere, IsTooLong, Lacks, NamesModules, IsSource, AreSources, HasSignature, HasSources, HasTree, HaveTrees, HasSignatureTree, IsSignatureTree, AreSpelled, file_limit}
 use Rattle.ur_load.specs.Refuses.{RefusesTokens, RefusesSource, RefusesSources, RefusesFiles}
 use Rattle.ur_load.specs.Loaded.{IsLoaded, IsLoadedFrom}
-use Rattle.ur_load.specs.Accepts.{program_in, unsigned, program_of, IsProgram, Accepts, IsUnbuilt, IsRefused, Refuses}
 use Rattle.ur_load.specs.declared.loaded.Loaded.{Loaded}
-use Rattle.ur_load.specs.declared.program.Program.{Program}
 use Rattle.ur_load.specs.declared.source.Source.{Source}
 use Rattle.ur_load.specs.declared.source.Sources.{Sources}
 
@@ -99,7 +97,7 @@ signature_tree_once (Some s) None y a b = absurd a
 signature_tree_once (Some s) (Some t) None a b = absurd b
 signature_tree_once (Some s) (Some t) (Some u) a b = ap Some (signed_once s t u a b)
 
--- ---- what is loaded, and the program
+-- ---- what is loaded
 
 same_loaded : (l m : Loaded) → l.project ≡ m.project → l.files ≡ m.files → l.names ≡ m.names → l.modules ≡ m.modules → l.signature ≡ m.signature → l ≡ m
 same_loaded l m p f n t s =
@@ -116,13 +114,6 @@ loaded_once project sources l m a b = same_loaded l m (a.own ∙ sym b.own) (a.f
 pub one_project : (files : Files) (project : List ℕ) (l m : Loaded) → IsLoaded files project l → IsLoaded files project m → l ≡ m
 one_project files project l m a b =
     loaded_once project a.sources l m a.from_sources (subst (λ z. IsLoadedFrom project z m) (all_once files project b.sources a.sources b.has a.has) b.from_sources)
-
-pub one_program : (files : Files) (project : List ℕ) (p q : Program) → Accepts files project p → Accepts files project q → p ≡ q
-one_program files project p q a b =
-    let sources : a.sources ≡ b.sources = all_once files project a.sources b.sources a.has b.has in
-    let is : IsProgram a.sources q = subst (λ z. IsProgram z q) (sym sources) b.is in
-    let trees : a.is.trees ≡ is.trees = trees_once a.sources.modules a.is.trees is.trees a.is.spelled is.spelled in
-    let both : Some p ≡ Some q = sym a.is.is ∙ ap (program_of a.sources) trees ∙ is.is in cc
 
 -- ---- no refusal of what is loaded
 
@@ -202,33 +193,3 @@ spelled_refused files project _ r sources trees x (RefusesFiles.of_sources other
 
 pub refused_is_not_loaded : (files : Files) (project file : List ℕ) (r : Refusal) (l : Loaded) → RefusesFiles files project file r → IsLoaded files project l → ⊥
 refused_is_not_loaded files project file r l refuses is = spelled_refused files project file r is.sources l.modules l.signature refuses is.has is.from_sources.spelled
-
--- ---- no refusal beside a program
-
--- a project of the form has no signature
-unsigned_is_none : (found : Option Source) (program : Option Program) (p : Program) → unsigned found program ≡ Some p → found ≡ None
-unsigned_is_none None program p is = refl
-unsigned_is_none (Some s) program p is = absurd (cc)
-
-program_spelled : (sources : Sources) (p : Program) (is : IsProgram sources p) → AreSpelled sources is.trees None
-program_spelled sources p is = record {
-  modules = is.spelled;
-  signed = subst (λ z. IsSignatureTree z None) (sym (unsigned_is_none sources.signature (program_in sources.modules is.trees) p is.is)) tt;
-}
-
-unbuilt_refused : (project : List ℕ) (sources : Sources) (p : Program) (trees : List Tree) (file : List ℕ) (r : Refusal) → IsProgram sources p → HaveTrees sources.modules trees
-    → IsUnbuilt project sources trees file r → ⊥
-unbuilt_refused project sources p trees file r is spelled h =
-    let same : trees ≡ is.trees = trees_once sources.modules trees is.trees spelled is.spelled in
-    let both : None ≡ Some p = sym h.none ∙ ap (program_of sources) same ∙ is.is in cc
-
--- a refusal of files that are a program holds of no files
-refused_in : (files : Files) (project : List ℕ) (program : Program) (file : List ℕ) (r : Refusal) → Accepts files project program → IsRefused files project file r → ⊥
-refused_in files project program file r a (IsRefused.no_trees refuses) =
-    spelled_refused files project file r a.sources a.is.trees None refuses a.has (program_spelled a.sources program a.is)
-refused_in files project program file r a (IsRefused.not_built sources trees x has spelled h) =
-    let same : a.sources ≡ sources = all_once files project a.sources sources a.has has in
-    unbuilt_refused project sources program trees file r (subst (λ z. IsProgram z program) same a.is) spelled.modules h
-
-pub not_both : (files : Files) (project : List ℕ) (program : Program) (r : Refusal) → Accepts files project program → Refuses files project r → ⊥
-not_both files project program r a (file, refused) = refused_in files project program file r a refused

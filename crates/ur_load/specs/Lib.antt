@@ -2,5 +2,4 @@ pub mod Names
 pub mod Sources
 pub mod Refuses
 pub mod Loaded
-pub mod Accepts
 pub mod Loads

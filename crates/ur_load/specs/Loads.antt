@@ -16,7 +16,7 @@ use Rattle.ur_load.specs.declared.load_end.LoadEnd.{LoadEnd}
 use Rattle.ur_load.specs.declared.load_end.LoadEnd.TheVariants.{Refused, Shelf, Memory}
 use Rattle.ur_load.specs.declared.source.Source.{Source}
 
--- P of the file and the refusal, where there is no program for one
+-- P of the file and the refusal, where nothing is loaded for one
 abbrev pub IfRefusedIn : {A : Type 0} → Result A LoadEnd → (List ℕ → Refusal → Type 0) → Type 0
 IfRefusedIn (Err (Refused file r)) P = P file r
 IfRefusedIn r P = ⊤

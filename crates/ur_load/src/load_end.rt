@@ -1,4 +1,4 @@
-//! Why there is no program.
+//! Why a project is not loaded.
 ghost use Rattle.std.specs.Prelude.{◌≡◌};
 ghost use Rattle.ur_load.specs.Loads.{IsStopIn, SaysIn};
 
@@ -6,7 +6,7 @@ use std::alloc::Global;
 use ur_base::{List, Memory, Refusal, Span, Stop, Text};
 use ur_io::FetchEnd;
 
-/// Why a program was not loaded: it is refused in one of its files, the shelf failed, or memory is wanting.
+/// Why a project is not loaded: it is refused in one of its files, the shelf failed, or memory is wanting.
 #[derive(Debug, Drop)]
 pub enum LoadEnd {
     Refused { file: Text, refusal: Refusal },

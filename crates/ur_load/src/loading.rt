@@ -1,21 +1,18 @@
-//! A program from its files.
+//! The sources of a project, with their trees, from its files.
 ghost use Rattle.std.specs.Prelude.{◌≡◌, ◌≤◌, ◌<◌, length, IfOk, IsTrue, string_bytes};
 ghost use Rattle.std.specs.List.{list_all};
 ghost use Rattle.ur_base.specs.Counts.{Rose};
 ghost use Rattle.ur_base.specs.Told.{WhereTold};
-ghost use Rattle.ur_page.specs.Words.{is_module_name};
+ghost use Rattle.ur_project.specs.Words.{is_module_name};
 ghost use Rattle.ur_project.specs.Project.{IsProject, RefusesProject, module_limit};
 ghost use Rattle.ur_load.specs.Names.{module_file as file_of_module, signature_file as file_of_signature, main_of};
 ghost use Rattle.ur_load.specs.Sources.{IsSource, AreSources, HasSignature, HasSources, AreSpelled, NamesModules, Lacks, IsTooLong, file_limit};
 ghost use Rattle.ur_load.specs.Refuses.{RefusesFiles, RefusesSources};
-ghost use Rattle.ur_load.specs.Accepts.{Accepts, IsRefused};
 ghost use Rattle.ur_load.specs.Loads.{IfRefusedIn, OnShelf, LacksModule, AreSmall, IsSmall};
 
-use crate::built::program_of;
 use crate::fetching::{if_there, needed};
 use crate::files::{module_file, project_file, signature_file};
 use crate::load_end::{LoadEnd, stopped_in};
-use crate::program::Program;
 use crate::source::{Source, Sources};
 use crate::trees::{signature_tree, trees_of};
 use std::alloc::Global;
@@ -24,29 +21,6 @@ use ur_base::{Bytes, List, Memory, Text};
 use ur_io::Shelf;
 use ur_project::read_project;
 use ur_syntax::{Module, Signature};
-
-/// The program of the project of this name. Refused with the first of these that is so, in its file: the project file is
-/// missing (E02), too long (E20), no text (E03), or wrong (E01), or names more than 64 modules (E20); a module's file is
-/// missing (E02) or too long (E20); the main module's signature, where its file is there, is too long (E20); a module is
-/// no text (E03), or has something that is no token (E04), or is spelled by no tree (E05) or by none within 256 (E06), each
-/// module after the one before it; the same of the signature; the project is not one module of the first page's form
-/// without a signature (E21).
-pub fn load_program<S: Shelf>(
-    alloc: Global,
-    shelf: &mut S,
-    project: &str,
-) -> Result<Program, LoadEnd>
-    ensures program { IfOk result (λ program. WhereTold (S.told shelf.old) (λ files. Accepts files project.now program)) }
-    ensures refused { IfRefusedIn result (λ file r. WhereTold (S.told shelf.old) (λ files. IsRefused files project.now file r)) }
-    ensures shelf { OnShelf result (Rose (S.faults shelf.old) (S.faults shelf.new)) }
-    ensures never_falls { S.faults shelf.old ≤ S.faults shelf.new }
-    ensures kept { S.told shelf.new ≡ S.told shelf.old }
-{
-    match load_spelled(alloc, shelf, project) {
-        Ok(spelled) => program_of(alloc, project, &spelled.sources, spelled.modules.as_slice()),
-        Err(end) => Err(end),
-    }
-}
 
 /// The sources of a project, with the trees that spell them.
 #[derive(Drop)]

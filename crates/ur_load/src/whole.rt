@@ -1,22 +1,10 @@
 //! Laws on files.
 ghost use Rattle.std.specs.Prelude.{◌≡◌, ◌⊎◌, ℕ, List, Option, Some, Contains};
 ghost use Rattle.ur_base.specs.declared.refusal.Refusal.{Refusal};
-ghost use Rattle.ur_load.specs.Accepts.{Accepts, Refuses};
 ghost use Rattle.ur_load.specs.Loaded.{IsLoaded, file_at};
 ghost use Rattle.ur_load.specs.Refuses.{RefusesFiles};
 ghost use Rattle.ur_load.specs.declared.loaded.Loaded.{Loaded};
-ghost use Rattle.ur_load.specs.declared.program.Program.{Program};
 ghost use Rattle.ur_load.specs.declared.source.Source.{Source};
-
-/// A project has at most one program.
-pub fn one_program()
-    ensures { (files : List ℕ → Option (List ℕ)) (project : List ℕ) (p q : Program) → Accepts files project p → Accepts files project q → p ≡ q }
-{}
-
-/// No refusal is one of files that are a program.
-pub fn not_both()
-    ensures { (files : List ℕ → Option (List ℕ)) (project : List ℕ) (program : Program) (r : Refusal) → Accepts files project program → Refuses files project r → ⊥ }
-{}
 
 /// The files of a project spell its trees in one way at most.
 pub fn one_project()

@@ -3,7 +3,7 @@ use Rattle.std.proofs.Common.{◌≡◌, ◌∙◌, ℕ, Bool, true, false, not,
 use Rattle.std.specs.List.{list_all}
 use Rattle.std.proofs.lemmas.List.Folds.{list_any-append}
 use Rattle.std.proofs.lemmas.Slice.Eq.{bytes_eq-Decides}
-use Rattle.ur_page.specs.Words.{is_one_of, are_distinct}
+use Rattle.ur_project.specs.Words.{is_one_of, are_distinct}
 
 pub apart : {A : Type 0} → true ≡ false → A
 apart e = let h : ◌≡◌ {A = Bool} true false = e in absurd (cc)

@@ -4,7 +4,7 @@ use Rattle.std.specs.List.{list_all}
 use Rattle.std.proofs.lemmas.List.{length-append}
 use Rattle.std.proofs.lemmas.List.Elements.{Contains-append_right}
 use Rattle.std.proofs.lemmas.List.Sums.{AllPass-from_list_all}
-use Rattle.ur_page.specs.Words.{is_module_name, is_one_of}
+use Rattle.ur_project.specs.Words.{is_module_name, is_one_of}
 use Rattle.ur_project.specs.Lines.{is_empty, project_lines}
 use Rattle.ur_project.specs.Project.{is_directive, AreToName, AreModules, IsProject, IsBadLine}
 use Rattle.ur_project.proofs.Facing.{apart, first_failing, none_fails, Cuts, two_cuts, other_words}

@@ -11,7 +11,7 @@ use Rattle.std.proofs.lemmas.Map.Views.{Contains-from_any}
 use Rattle.std.proofs.lemmas.Option.{slice_get_within, get_or_from_slice_get}
 use Rattle.std.proofs.lemmas.Slice.Eq.{bytes_eq-Decides}
 use Rattle.ur_base.proofs.Texts.{absent_text}
-use Rattle.ur_page.specs.Words.{is_module_name, is_one_of}
+use Rattle.ur_project.specs.Words.{is_module_name, is_one_of}
 use Rattle.ur_project.specs.Lines.{is_empty}
 use Rattle.ur_project.specs.declared.lines.Line.{Line}
 use Rattle.ur_project.specs.Placed.{texts}

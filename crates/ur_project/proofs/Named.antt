@@ -12,7 +12,7 @@ use Rattle.ur_project.specs.Lines.{is_space, is_empty, trimmed, without_last, pr
 use Rattle.ur_project.specs.Project.{AreToName, IsProject}
 use Rattle.ur_project.proofs.Cuts.{is_newline, first_cut, line_whole}
 use Rattle.std.specs.Str.{IsAscii, IsUtf8}
-use Rattle.ur_page.specs.Words.{is_name_byte, is_small, is_module_name}
+use Rattle.ur_project.specs.Words.{is_name_byte, is_small, is_module_name}
 use Rattle.ur_project.proofs.Facing.{apart, and_true, both_true}
 
 byte_is : (b : ℕ) → is_name_byte b ≡ true → b < 128

@@ -3,7 +3,7 @@ use Rattle.std.specs.Prelude.{◌≡◌, ◌≢◌, ◌⊎◌, ℕ, ◌+◌, ◌
 use Rattle.std.specs.List.{list_all, starts_with}
 use Rattle.ur_base.specs.declared.refusal.Refusal.{Refusal}
 use Rattle.ur_base.specs.Stopping.{Says}
-use Rattle.ur_page.specs.Words.{is_module_name, is_one_of, are_distinct}
+use Rattle.ur_project.specs.Words.{is_module_name, is_one_of, are_distinct}
 use Rattle.ur_project.specs.Lines.{is_empty, line_ends, project_lines}
 
 -- `database` or `sql` with a space and any text, `debug`, or what begins with `#`

@@ -2,7 +2,7 @@
 ghost use Rattle.std.specs.Prelude.{◌≡◌, ◌<◌, ◌≤◌, ◌∷◌, ◌++◌, [], false, IsTrue, IfOk, length, drop};
 ghost use Rattle.std.specs.List.{list_all, position_or_len};
 ghost use Rattle.ur_base.specs.Stopping.{IfRefused};
-ghost use Rattle.ur_page.specs.Words.{is_module_name, is_name_byte, is_small, is_one_of};
+ghost use Rattle.ur_project.specs.Words.{is_module_name, is_name_byte, is_small, is_one_of};
 ghost use Rattle.ur_project.specs.Lines.{is_empty};
 ghost use Rattle.ur_project.specs.Placed.{texts, SaysLine, SaysLineOf};
 ghost use Rattle.ur_project.specs.Project.{is_directive, AreToName, AreModules};

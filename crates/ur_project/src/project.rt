@@ -1,7 +1,7 @@
 //! Project files.
 ghost use Rattle.std.specs.Prelude.{◌≡◌, ◌≤◌, ◌⊎◌, ◌∷◌, ◌++◌, [], true, List, ℕ, IfOk, IsUtf8, length};
 ghost use Rattle.ur_base.specs.Stopping.{IfRefused};
-ghost use Rattle.ur_page.specs.Words.{is_module_name};
+ghost use Rattle.ur_project.specs.Words.{is_module_name};
 ghost use Rattle.ur_project.specs.Lines.{project_lines};
 ghost use Rattle.ur_project.specs.Placed.{SaysWhole};
 ghost use Rattle.ur_project.specs.Project.{IsProject, IsBadLine, RefusesProject, module_limit};

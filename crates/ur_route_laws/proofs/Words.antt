@@ -8,7 +8,7 @@ use Rattle.std.proofs.lemmas.Str.Ascii.{IsAscii-nil, IsAscii-cons}
 use Rattle.ur_disjoint.proofs.Members.{In, map-in}
 use Rattle.ur_lex.specs.Spelling.{is_in_name, is_lower, is_among, keywords}
 use Rattle.ur_lex.specs.Spelling as lex
-use Rattle.ur_page.specs.Words.{is_name_byte, is_small, is_module_name, is_one_of, are_distinct}
+use Rattle.ur_project.specs.Words.{is_name_byte, is_small, is_module_name, is_one_of, are_distinct}
 use Rattle.ur_load.specs.Names.{module_name}
 use Rattle.ur_route_laws.proofs.Places.{Distinct, distinct_map}
 

@@ -1,255 +1,149 @@
--- Sessions of at most one request.
-use Rattle.std.proofs.Common.{◌≡◌, ℕ, ◌-◌, ◌≤◌, ◌<◌, Bool, true, false, ◌&&◌, nat_le, bytes_eq, cond, List, [], ◌∷◌, ◌++◌, length, take, drop, Option, Some, None, inl, inr, refl, sym, ap, subst, ◌∙◌, arith, append-nil}
-use Rattle.std.proofs.lemmas.Bool.{leb-true, leb-false, lt-leb}
-use Rattle.std.proofs.Math.Seq.{take-append_seam}
-use Rattle.std.proofs.lemmas.List.{take-append-drop, length-take-le}
-use Rattle.ur_base.specs.Told.{WhereTold, Tells}
-use Rattle.ur_io.proofs.Pieces.{onto_wire}
-use Rattle.ur_io.specs.Fronts.{IsFront}
-use Rattle.ur_io.specs.Traffic.{Traffic, onto_last, after_read}
-use Rattle.ur_io.specs.declared.session.Mark.{Mark}
-use Rattle.ur_io.specs.declared.session.Mark.TheVariants as mark
+-- What a run says that obeyed its words and then reported: one lemma a clause.
+use Rattle.std.proofs.Common.{◌≡◌, ◌≢◌, ◌⊎◌, inl, inr, ℕ, ◌+◌, ◌≤◌, false, List, [], ◌∷◌, ◌++◌, length, Option, Some, None, Contains, Any, ap, subst, arith}
+use Rattle.ur_base.specs.Counts.{Rose, RoseBy}
+use Rattle.ur_base.specs.Told.{WhereTold}
+use Rattle.ur_base.specs.declared.refusal.Refusal.{Refusal}
+use Rattle.ur_io.specs.Files.{Files}
 use Rattle.ur_io.specs.declared.session.SessionEnd.{SessionEnd}
-use Rattle.ur_io.specs.declared.session.Why.{Why}
-use Rattle.ur_io.specs.declared.session.Why.TheVariants.{Wire, Closed, End}
-use Rattle.ur_top.specs.Ends.{Writes, WritesReply, why_after, reply_to, no_memory}
-use Rattle.ur_top.specs.Headline.{IsSession, IsSessionOn}
-use Rattle.ur_top.specs.Http.{answer, item_of, items_of, path_asked, request_bytes, after_path, is_path}
-use Rattle.ur_top.specs.Inputs.{Takes, HasGiven}
-use Rattle.ur_top.specs.Sessions.{Served}
-use Rattle.ur_load.specs.declared.program.Program.{Program}
+use Rattle.ur_words.specs.declared.reading.Reading.{Reading}
+use Rattle.ur_words.specs.declared.reading.Reading.TheVariants.{Replay, Load}
+use Rattle.ur_values.specs.declared.schema.Schema.{Schema}
+use Rattle.ur_keeper.specs.Tables.{Empty, Keeps}
+use Rattle.ur_tree.specs.declared.typed.Typed.{Typed}
+use Rattle.ur_compile.specs.Accepts.{Accepts, HasOneApplication}
+use Rattle.ur_compile.specs.Explains.{Refuses}
+use Rattle.ur_headline.specs.Counting.{wire_faults, next_failed, IsCutOff, IsWireStatus, LeftOut, WantsMemory, IsWhole}
+use Rattle.ur_headline.specs.Readings.{serving, ForServing}
+use Rattle.ur_top.specs.Ends.{World, HasFiles, NoCalls, IsSaid, IsStatus, Reports}
+use Rattle.ur_top.specs.Obeyed.{Obeyed}
+use Rattle.ur_top.specs.Prints.{Prints}
+use Rattle.ur_top.specs.Sources.{ForReport, ForSource, OfSource, Compiles, HasNoCode}
+use Rattle.ur_top.specs.declared.reporting.RunEnd.{RunEnd}
+use Rattle.ur_top.specs.declared.reporting.RunEnd.TheVariants as end
+use Rattle.ur_top.proofs.Cases.{of_source}
+use Rattle.ur_top.proofs.Statuses as of
+use Rattle.ur_top.proofs.Printing.{rises_of, prints, joined}
 
--- ---- the input that is looked at
+-- ---- the sink
 
--- more bytes than a request has are none
-too_long : (bytes : List ℕ) → 16384 < length bytes → path_asked bytes ≡ None
-unfolding path_asked
-too_long bytes long = let path = take (length bytes - 4 - length after_path) (drop 4 bytes) in rw (lt-leb (length bytes) 16384 long) (none (bytes_eq (request_bytes path) bytes) (is_path path) path) where
-  none : (a b : Bool) (path : List ℕ) → cond (a && false && b) (Some path) None ≡ None
-  none true b path = refl
-  none false b path = refl
+rose_before : (old mid new : ℕ) → Rose old mid → mid ≤ new → Rose old new
+rose_before old mid new rose later = grind (arith, rose, later)
 
--- the bytes that were taken ask what all of them ask
-same_asked : (t : Traffic) (n : ℕ) (buffer : List ℕ) (new : Option Traffic) → length buffer ≡ 16385 → n ≤ length buffer → Takes t n buffer new → path_asked (take n buffer) ≡ path_asked t.left
-same_asked t n buffer new size within takes = rw (takes.bytes) (cases (nat_le 16385 n) refl) where
-  cases : (b : Bool) → nat_le 16385 n ≡ b → path_asked (take n t.left) ≡ path_asked t.left
-  cases true e =
-      let full : 16385 ≤ n = leb-true 16385 n e in
-      let front : length (take n t.left) ≡ n = length-take-le n t.left takes.within in
-      too_long (take n t.left) (omega (arith, front)) ∙ sym (too_long t.left (omega (arith, takes.within)))
-  cases false e =
-      let short : n < 16385 = leb-false 16385 n e in
-      let none : drop n t.left ≡ [] = takes.ended (omega (arith, size)) in
-      let all : take n t.left ++ drop n t.left ≡ t.left = take-append-drop n t.left in
-      let whole : take n t.left ++ [] ≡ t.left = rw none at all in
-      ap path_asked (sym (append-nil (take n t.left)) ∙ whole)
+rose_behind : (old mid new : ℕ) → old ≤ mid → Rose mid new → Rose old new
+rose_behind old mid new later rose = grind (arith, later, rose)
 
-pub seam : (n : ℕ) (bytes more : List ℕ) → length bytes ≡ n → take n (bytes ++ more) ≡ bytes
-seam n bytes more e = let h = take-append_seam bytes more in rw e at h
+-- status 5 comes of a fault of the sink: in the first line, or in the report
+pub sink_fault : (e : RunEnd) (status old mid new : ℕ) → (e ≡ end.Sink → Rose old mid) → old ≤ mid → (status ≡ 5 → (e ≡ end.Sink) ⊎ Rose mid new) → mid ≤ new
+    → status ≡ 5 → Rose old new
+sink_fault e status old mid new first later fault later' five = either (fault five)
+  where
+    either : (e ≡ end.Sink) ⊎ Rose mid new → Rose old new
+    either (inl is) = rose_before old mid new (first is) later'
+    either (inr rose) = rose_behind old mid new later rose
 
--- ---- the sessions
+pub later : (old mid new : ℕ) → old ≤ mid → mid ≤ new → old ≤ new
+later old mid new a b = omega (arith, a, b)
 
-silent_cut : (program : Program) (bytes : List ℕ) → IsSession program bytes (record { marks = []; why = Wire }) []
-silent_cut program bytes = record {
-  items = items_of bytes;
-  end = End;
-  asked = (refl, refl);
-  answers = [];
-  closed = false;
-  left = items_of bytes;
-  served = Served.none 1000 tt (items_of bytes);
-  given_all = ([], refl);
-  all_marked = λ e. absurd (cc);
-}
+-- what was printed before serving stands at the front of all that is printed
+pub line_first : (o mid new : Option (List ℕ)) (line : List ℕ) (R : List ℕ → Type 0) → WhereTold o (λ before. mid ≡ Some (before ++ line))
+    → WhereTold mid (λ before. (said : List ℕ) × (new ≡ Some (before ++ said)) × R said) → WhereTold o (λ before. (rest : List ℕ) × (new ≡ Some (before ++ line ++ rest)))
+line_first None mid new line R first then = tt
+line_first (Some before) mid new line R first then = let all = subst (λ m. WhereTold m (λ before. (said : List ℕ) × (new ≡ Some (before ++ said)) × R said)) first then in (all.0, all.1)
 
-silent_end : (program : Program) → IsSession program [] (record { marks = []; why = End }) []
-silent_end program = record {
-  items = [];
-  end = End;
-  asked = (refl, refl);
-  answers = [];
-  closed = false;
-  left = [];
-  served = Served.none 1000 tt [];
-  given_all = (refl, refl);
-  all_marked = λ e. refl;
-}
+-- ---- the statuses and the rest
 
-done_ended : (program : Program) (b : ℕ) (bytes said : List ℕ) (closes : Bool)
-    → record { bytes = said; closes = closes; store = tt } ≡ answer program (item_of (path_asked (b ∷ bytes))) false
-    → IsSession program (b ∷ bytes) (record { marks = mark.Done ∷ []; why = why_after closes }) said
-done_ended program b bytes said true e = record {
-  items = items_of (b ∷ bytes);
-  end = End;
-  asked = (refl, refl);
-  answers = said;
-  closed = true;
-  left = [];
-  served = Served.done 999 tt _ [] (record { bytes = said; closes = true; store = tt }) e;
-  given_all = (refl, refl);
-  all_marked = λ e. refl;
-}
-done_ended program b bytes said false e = record {
-  items = items_of (b ∷ bytes);
-  end = End;
-  asked = (refl, refl);
-  answers = said;
-  closed = false;
-  left = [];
-  served = Served.done 999 tt _ [] (record { bytes = said; closes = false; store = tt }) e;
-  given_all = (refl, refl);
-  all_marked = λ e. refl;
-}
+module _ {told : Option Files} {tells : Type 0} {reading : Option Reading} {old new : World} {e : RunEnd} {sessions : List SessionEnd}
+    (status : ℕ) (obeyed : Obeyed told tells reading old new e sessions) (is : IsStatus e status) where
+  pub statuses : Contains (0 ∷ 1 ∷ 2 ∷ 3 ∷ 4 ∷ 5 ∷ 6 ∷ 7 ∷ 8 ∷ []) status
+  statuses = of.statuses told reading old new sessions status e is
 
-done_cut : (program : Program) (b : ℕ) (bytes said : List ℕ) (closes : Bool) (front : List ℕ)
-    → record { bytes = said; closes = closes; store = tt } ≡ answer program (item_of (path_asked (b ∷ bytes))) false → IsFront front said
-    → IsSession program (b ∷ bytes) (record { marks = mark.Done ∷ []; why = Wire }) front
-done_cut program b bytes said closes front e is_front = record {
-  items = items_of (b ∷ bytes);
-  end = End;
-  asked = (refl, refl);
-  answers = said;
-  closed = closes;
-  left = [];
-  served = Served.done 999 tt _ [] (record { bytes = said; closes = closes; store = tt }) e;
-  given_all = is_front;
-  all_marked = λ e. refl;
-}
+  pub usage_only : status ≡ 1 → reading ≡ None
+  usage_only = of.usage_only told reading old new sessions status e obeyed.ends is
 
-memory_ended : (program : Program) (bytes : List ℕ) → IsSession program bytes (record { marks = mark.Memory ∷ []; why = Closed }) no_memory
-unfolding no_memory
-memory_ended program bytes = record {
-  items = items_of bytes;
-  end = End;
-  asked = (refl, refl);
-  answers = no_memory;
-  closed = true;
-  left = [];
-  served = Served.memory 999 tt (items_of bytes) [];
-  given_all = (refl, refl);
-  all_marked = λ e. refl;
-}
+  pub usage : reading ≡ None → Contains (1 ∷ 5 ∷ 8 ∷ []) status
+  usage = of.usage told reading old new sessions status e obeyed.ends is
 
-memory_cut : (program : Program) (bytes front : List ℕ) → IsFront front no_memory → IsSession program bytes (record { marks = mark.Memory ∷ []; why = Wire }) front
-unfolding no_memory
-memory_cut program bytes front is_front = record {
-  items = items_of bytes;
-  end = End;
-  asked = (refl, refl);
-  answers = no_memory;
-  closed = true;
-  left = [];
-  served = Served.memory 999 tt (items_of bytes) [];
-  given_all = is_front;
-  all_marked = λ e. refl;
-}
+  pub refused_only : status ≡ 2 → (file : List ℕ) × ((r : Refusal) × OfSource told reading (λ files word. Refuses files word file r))
+  refused_only = of.refused_only told reading old new sessions status e obeyed.ends is
 
--- ---- what was written
+  pub refused : ForSource told reading (λ files word. HasNoCode files word → Contains (2 ∷ 4 ∷ 5 ∷ 8 ∷ []) status)
+  refused = of.refused told reading old new sessions status e obeyed.ends is
 
--- a session with these marks, whose answer was written from this state of the wire on
-wrote : (program : Program) (t u : Traffic) (said : List ℕ) (why : Why) (marks : List Mark) (s : SessionEnd) (new : Option Traffic)
-    → HasGiven t u → (s.why ≡ End → u.left ≡ []) → s.marks ≡ marks → Writes u said why s.why new
-    → IsSession program t.left (record { marks = marks; why = why }) said
-    → ((front : List ℕ) → IsFront front said → IsSession program t.left (record { marks = marks; why = Wire }) front)
-    → IsSessionOn program t s new
-unfolding IsSessionOn
-wrote program t u said why marks s new (given, coming) left m (inl (w, told)) whole cut =
-    rw told (
-      coming,
-      left,
-      (
-        said,
-        ap (λ l. onto_last l said) given,
-        subst (λ x. IsSession program t.left (record { marks = x; why = s.why }) said) (sym m)
-            (subst (λ x. IsSession program t.left (record { marks = marks; why = x }) said) (sym w) whole),
-      ),
-    )
-wrote program t u said why marks s new (given, coming) left m (inr (w, (front, is_front, told))) whole cut =
-    rw told (
-      coming,
-      left,
-      (
-        front,
-        ap (λ l. onto_last l front) given,
-        subst (λ x. IsSession program t.left (record { marks = x; why = s.why }) front) (sym m)
-            (subst (λ x. IsSession program t.left (record { marks = marks; why = x }) front) (sym w) (cut front is_front)),
-      ),
-    )
+  pub shelf_fault : status ≡ 4 → Rose old.shelf_faults new.shelf_faults × HasFiles reading
+  shelf_fault = of.shelf_fault told reading old new sessions status e obeyed.ends is
 
--- an answer that closes ends no session with its input
-closed_not_end : (t : Traffic) (said : List ℕ) (s : SessionEnd) (new : Option Traffic) → Writes t said Closed s.why new → s.why ≡ End → ⊥
-closed_not_end t said s new (inl (w, told)) e = cc
-closed_not_end t said s new (inr (w, more)) e = cc
+  pub wire_fault : status ≡ 6 → Rose old.wire_faults new.wire_faults × IsWireStatus reading sessions
+  wire_fault = of.wire_fault told reading old new sessions status e obeyed.ends is
 
-pub wrote_no_memory : (program : Program) (told : Option Traffic) (said : List ℕ) (s : SessionEnd) (new : Option Traffic)
-    → said ≡ no_memory → s.marks ≡ mark.Memory ∷ [] → WhereTold told (λ t. Writes t said Closed s.why new) → WhereTold told (λ t. IsSessionOn program t s new)
-wrote_no_memory program None said s new e m w = tt
-wrote_no_memory program (Some t) said s new e m w =
-    let writes : Writes t no_memory Closed s.why new = subst (λ x. Writes t x Closed s.why new) e w in
-    wrote program t t no_memory Closed (mark.Memory ∷ []) s new (refl, refl) (λ e. absurd (closed_not_end t no_memory s new writes e)) m writes (memory_ended program t.left) (memory_cut program t.left)
+  pub keeper_fault : status ≡ 7 → Rose old.keeper_faults new.keeper_faults × (sessions ≡ []) × (serving reading ≢ None)
+  keeper_fault = of.keeper_fault told reading old new sessions status e obeyed.ends is
 
-some_byte : (bytes : List ℕ) → 0 < length bytes → (b : ℕ) × (rest : List ℕ) × (bytes ≡ b ∷ rest)
-some_byte [] h = absurd (omega arith)
-some_byte (b ∷ rest) h = (b, rest, refl)
+  pub cut_off : RoseBy (wire_faults sessions + next_failed reading status) old.wire_faults new.wire_faults
+  cut_off = of.cut_off told reading old new sessions status e obeyed.ends is obeyed.wire_rose
 
-pub wrote_reply : (program : Program) (first middle : Option Traffic) (n : ℕ) (buffer bytes : List ℕ) (s : SessionEnd) (last : Option Traffic)
-    → length buffer ≡ 16385 → n ≤ length buffer → (n ≡ 0 → ⊥) → bytes ≡ take n buffer
-    → WhereTold first (λ t. Takes t n buffer middle) → WhereTold middle (λ t. WritesReply program bytes t s last)
-    → WhereTold first (λ t. IsSessionOn program t s last)
-unfolding reply_to
-wrote_reply program None middle n buffer bytes s last size within some front takes writes = tt
-wrote_reply program (Some t) middle n buffer bytes s last size within some front takes writes =
-    let after : WritesReply program bytes (after_read t n) s last = rw takes.after at writes in
-    elim after [ inl (m, w) ↦ done m w | inr (m, w) ↦ wrote program t (after_read t n) no_memory Closed (mark.Memory ∷ []) s last (refl, refl) (λ e. absurd (closed_not_end (after_read t n) no_memory s last w e)) m w (memory_ended program t.left) (memory_cut program t.left) ] where
-      -- the answer keeps the connection, so all of the input was taken
-      all_taken : (closes : Bool) → (reply_to program bytes).closes ≡ closes → Writes (after_read t n) (reply_to program bytes).bytes (why_after closes) s.why last → s.why ≡ End → drop n t.left ≡ []
-      all_taken true c w e = absurd (closed_not_end (after_read t n) (reply_to program bytes).bytes s last w e)
-      all_taken false c w e = elim (nat_le 16385 n) as (λ b. nat_le 16385 n ≡ b → drop n t.left ≡ []) [
-        | true ↦ λ h. let full : 16385 ≤ n = leb-true 16385 n h in
-            let none : path_asked bytes ≡ None = ap path_asked front ∙ too_long (take n buffer) (omega (arith, length-take-le n buffer within)) in
-            let closing : (reply_to program bytes).closes ≡ true = ap (λ o. (answer program (item_of o) false).closes) none in cc
-        | false ↦ λ h. takes.ended (omega (arith, size, leb-false 16385 n h))
-      ] refl
+  pub replay_cut : ForServing reading (λ s. Any IsCutOff sessions → reading ≡ Some (Replay s.project s.settings) → Contains (5 ∷ 6 ∷ []) status)
+  replay_cut = of.replay_cut told reading old new sessions status e obeyed.ends is
 
-      done : s.marks ≡ mark.Done ∷ [] → Writes (after_read t n) (reply_to program bytes).bytes (why_after (reply_to program bytes).closes) s.why last → IsSessionOn program t s last
-      done m w = let left = some_byte t.left (omega (arith, takes.within)) in
-          let asks : path_asked bytes ≡ path_asked (left.0 ∷ left.1) = ap path_asked front ∙ same_asked t n buffer middle size within takes ∙ ap path_asked left.2 in
-          let is : reply_to program bytes ≡ answer program (item_of (path_asked (left.0 ∷ left.1))) false = ap (λ o. answer program (item_of o) false) asks in
-          let said = (reply_to program bytes).bytes in
-          let closes = (reply_to program bytes).closes in
-          wrote program t (after_read t n) said (why_after closes) (mark.Done ∷ []) s last (refl, refl) (all_taken closes refl w) m w
-          (subst (λ l. IsSession program l (record { marks = mark.Done ∷ []; why = why_after closes }) said) (sym left.2) (done_ended program left.0 left.1 said closes is))
-          (λ front' is_front. subst (λ l. IsSession program l (record { marks = mark.Done ∷ []; why = Wire }) front') (sym left.2) (done_cut program left.0 left.1 said closes front' is is_front))
+  pub left_out : WhereTold old.wire (λ t. ForServing reading (λ s. LeftOut (1 ∷ 2 ∷ 3 ∷ 4 ∷ 5 ∷ 6 ∷ 7 ∷ 8 ∷ []) s.most (length t.coming) status sessions))
+  left_out = of.left_out told reading old new sessions status e obeyed.ends is
 
--- ---- nothing was written
+  pub no_current : ForServing reading (λ s. Contains (0 ∷ 6 ∷ []) status ⊎ (sessions ≢ []) → new.current ≡ false)
+  no_current = of.no_current told reading old new sessions status e obeyed.ends is
 
-silent : (program : Program) (t : Traffic) (marks : List Mark) (why : Why) (s : SessionEnd) (new : Option Traffic) → marks ≡ [] → s ≡ record { marks = marks; why = why }
-    → Tells new (λ u. HasGiven t u × (s.why ≡ End → u.left ≡ [])) → IsSession program t.left (record { marks = []; why = why }) [] → IsSessionOn program t s new
-unfolding IsSessionOn
-silent program t marks why s None none is told session = told
-silent program t marks why s (Some u) none is ((given, coming), left) session = (
-  coming,
-  left,
-  (
-    [],
-    given ∙ sym (ap (λ t. t.given) (onto_wire.none t)),
-    subst (λ x. IsSession program t.left x []) (sym (is ∙ ap (λ m. record { marks = m; why = why }) none)) session,
-  ),
+  pub not_begun : Contains (1 ∷ 2 ∷ 3 ∷ 4 ∷ 7 ∷ []) status → (sessions ≡ []) × (new.wire ≡ old.wire) × (new.wire_faults ≡ old.wire_faults) × (new.current ≡ old.current)
+  not_begun which = let calls : NoCalls old new sessions = of.not_begun told reading old new sessions status e obeyed.ends is which in
+      (calls.none, calls.same_wire, calls.same_faults, calls.same_current)
+
+  pub unserved : Contains (1 ∷ 2 ∷ 3 ∷ 4 ∷ 7 ∷ []) status → (new.saved ≡ old.saved) × (new.kept ≡ old.kept)
+  unserved which = obeyed.unserved (of.unserved told reading old new sessions status e is which)
+
+  -- ---- what rests on there being one application
+
+  module _ (one : (files : Files) (project : List ℕ) → HasOneApplication files project) where
+    pub one_application : ForSource told reading (λ files word. HasOneApplication files word)
+    one_application = of_source told reading (λ files word. HasOneApplication files word) one
+
+    pub schema_only : status ≡ 3 → (serving reading ≢ None) × (new.saved ≡ old.saved) × (new.kept ≡ old.kept)
+        × (WhereTold told (λ files. ForServing reading (λ s. (app : Typed) → Accepts files s.project app → old.kept ≢ Keeps app.schema)))
+    schema_only = of.schema_only told reading old new sessions status one e obeyed.ends is
+
+    pub schema : WhereTold told (λ files. ForServing reading (λ s. (app : Typed) → Compiles files s.project app → (other : Schema)
+        → old.kept ≡ Keeps other → other ≢ app.schema → Contains (3 ∷ 4 ∷ 5 ∷ 7 ∷ 8 ∷ []) status × (sessions ≡ [])))
+    schema = of.schema told reading old new sessions status one e obeyed.ends is
+
+    pub complete : (sink : Type 0) → (status ≡ 5 → sink) → WhereTold told (λ files. ForServing reading (λ s. (app : Typed) → Compiles files s.project app
+        → (old.kept ≡ Empty) ⊎ (old.kept ≡ Keeps app.schema) → ¬ (Rose old.shelf_faults new.shelf_faults) → ¬ (Rose old.wire_faults new.wire_faults)
+        → ¬ (Rose old.keeper_faults new.keeper_faults) → ¬ sink → Contains (0 ∷ 8 ∷ []) status
+        × WhereTold old.wire (λ t. WantsMemory status sessions ⊎ IsWhole s.most (length t.coming) status sessions)))
+    complete sink fault = of.complete told reading old new sessions status one sink fault obeyed.keeper_rose e obeyed.ends is
+
+  pub complete_report : (sink : Type 0) → (status ≡ 5 → sink) → WhereTold told (λ files. ForReport reading (λ p. (app : Typed) → Compiles files p app
+      → ¬ (Rose old.shelf_faults new.shelf_faults) → ¬ sink → Contains (0 ∷ 8 ∷ []) status))
+  complete_report sink fault = of.complete_report told reading old new sessions status sink fault e obeyed.ends is
+
+  pub complete_load : (sink : Type 0) → (status ≡ 5 → sink) → (seed n : ℕ) → reading ≡ Some (Load seed n)
+      → ForSource told reading (λ files word. (app : Typed) → Compiles files word app → ¬ sink → Contains (0 ∷ 8 ∷ []) status)
+  complete_load sink fault seed n asked = of.complete_load told reading old new sessions status sink fault seed n asked e obeyed.ends is
+
+  -- ---- what is printed
+
+  pub printed : (o mid now : Option (List ℕ)) → WhereTold o (λ before. (text : List ℕ) × (mid ≡ Some (before ++ text)) × IsSaid reading e text)
+      → WhereTold mid (λ before. (text : List ℕ) × (now ≡ Some (before ++ text)) × Reports e status text)
+      → WhereTold o (λ before. (text : List ℕ) × (now ≡ Some (before ++ text)) × Prints told old.kept reading (rises_of old new) sessions status text)
+  printed o mid now said reports = joined o mid now (IsSaid reading e) (Reports e status) (Prints told old.kept reading (rises_of old new) sessions status)
+      (λ before text first then. prints told reading old new sessions status e before text obeyed.ends first then) said reports
+
+-- a command that serves nothing
+pub no_serving : {told : Option Files} {tells : Type 0} {reading : Option Reading} {old new : World} {e : RunEnd} {sessions : List SessionEnd}
+    → Obeyed told tells reading old new e sessions → serving reading ≡ None → (sessions ≡ []) × (new.saved ≡ old.saved) × (new.kept ≡ old.kept)
+    × (new.reads ≡ old.reads) × (new.keeper_faults ≡ old.keeper_faults) × (new.wire ≡ old.wire) × (new.wire_faults ≡ old.wire_faults) × (new.current ≡ old.current)
+no_serving obeyed none = let all = obeyed.no_serving none in (
+  all.0,
+  ap (λ (w : World). w.saved) all.1,
+  ap (λ (w : World). w.kept) all.1,
+  ap (λ (w : World). w.reads) all.1,
+  ap (λ (w : World). w.keeper_faults) all.1,
+  ap (λ (w : World). w.wire) all.1,
+  ap (λ (w : World). w.wire_faults) all.1,
+  ap (λ (w : World). w.current) all.1,
 )
-
-pub silent_wire : (program : Program) (told : Option Traffic) (marks : List Mark) (s : SessionEnd) (new : Option Traffic) → marks ≡ [] → s ≡ record { marks = marks; why = Wire }
-    → WhereTold told (λ t. Tells new (HasGiven t)) → WhereTold told (λ t. IsSessionOn program t s new)
-silent_wire program None marks s new none is given = tt
-silent_wire program (Some t) marks s new none is given = silent program t marks Wire s new none is (told new given) (silent_cut program t.left) where
-  told : (o : Option Traffic) → Tells o (HasGiven t) → Tells o (λ u. HasGiven t u × (s.why ≡ End → u.left ≡ []))
-  told None h = h
-  told (Some u) h = (h, λ e. let w : s.why ≡ Wire = ap (λ (x : SessionEnd). x.why) is in absurd (cc))
-
-pub silent_input : (program : Program) (told : Option Traffic) (n : ℕ) (buffer : List ℕ) (marks : List Mark) (s : SessionEnd) (new : Option Traffic) → length buffer ≡ 16385 → n ≡ 0
-    → marks ≡ [] → s ≡ record { marks = marks; why = End } → WhereTold told (λ t. Takes t n buffer new) → WhereTold told (λ t. IsSessionOn program t s new)
-silent_input program None n buffer marks s new size zero none is takes = tt
-silent_input program (Some t) n buffer marks s new size zero none is takes =
-    let all : drop n t.left ≡ [] = takes.ended (omega (arith, size)) in
-    let empty : t.left ≡ [] = rw zero at all in
-    let told : Tells new (λ u. HasGiven t u × (s.why ≡ End → u.left ≡ [])) = rw takes.after ((refl, refl), λ e. all) in
-    silent program t marks End s new none is told (subst (λ l. IsSession program l (record { marks = []; why = End }) []) (sym empty) (silent_end program))

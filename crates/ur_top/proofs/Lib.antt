@@ -1,11 +1,13 @@
-mod Examples
-mod SessionRows
-pub mod Answering
-pub mod Arguments
-pub mod Asking
-pub mod Leading
-pub mod Opened
-pub mod Parts
-pub mod Plain
+pub mod Cases
 pub mod Statuses
-pub mod Taken
+pub mod Printing
+pub mod Answering
+mod Goings
+mod Sessioned
+mod ObeyingIdle
+mod ObeyingServed
+mod ObeyingWords
+mod ObeyingSaid
+mod Loading
+mod Noted
+mod Coded

@@ -1,237 +1,474 @@
--- What the end of a run says of its status.
-use Rattle.std.proofs.Common.{◌≡◌, ◌≢◌, ◌⊎◌, inl, inr, ℕ, suc, zero, min, false, List, [], ◌∷◌, ◌++◌, length, Option, Some, None, Contains, Any, refl, sym, ap, subst, ◌∙◌, arith, codes}
-use Rattle.ur_base.specs.Counts.{Rose}
+-- What the end of a run says of its status: one lemma a clause.
+use Rattle.std.proofs.Common.{◌≡◌, ◌≢◌, ◌⊎◌, inl, inr, ℕ, ◌+◌, min, false, List, [], ◌∷◌, length, Option, Some, None, Contains, Any, refl, sym, ap, subst, ◌∙◌, arith}
+use Rattle.ur_base.specs.Counts.{Rose, RoseBy}
 use Rattle.ur_base.specs.Told.{WhereTold}
 use Rattle.ur_base.specs.declared.refusal.Refusal.{Refusal}
 use Rattle.ur_io.specs.Files.{Files}
 use Rattle.ur_io.specs.Traffic.{Traffic}
 use Rattle.ur_io.specs.declared.session.SessionEnd.{SessionEnd}
-use Rattle.ur_load.proofs.Laws.{not_both}
-use Rattle.ur_load.specs.Accepts.{Accepts, Refuses, IsRefused}
-use Rattle.ur_top.specs.Causes.{Standing, Ends, IsStatus, Reports, SaysAt, Untouched, Names, IsAccepted}
-use Rattle.ur_top.specs.Headline.{IsCutOff}
-use Rattle.ur_top.specs.Prints.{Prints}
-use Rattle.ur_top.specs.Reports.{refusal_line, usage}
-use Rattle.ur_top.specs.Words.{replayed, ForProject}
-use Rattle.ur_load.specs.declared.program.Program.{Program}
+use Rattle.ur_words.specs.declared.reading.Reading.{Reading}
+use Rattle.ur_words.specs.declared.reading.Reading.TheVariants.{Check, Sites, Replay, Serve, Load}
+use Rattle.ur_values.specs.declared.schema.Schema.{Schema}
+use Rattle.ur_keeper.specs.Tables.{Tables, Kept, Empty, Keeps}
+use Rattle.ur_keeper.specs.Keeper.{AttachesTo}
+use Rattle.ur_keeper.specs.declared.keeper.Attached.TheVariants.{Differs}
+use Rattle.ur_tree.specs.declared.typed.Typed.{Typed}
+use Rattle.ur_compile.specs.Accepts.{Accepts, HasOneApplication}
+use Rattle.ur_compile.specs.Explains.{Refuses}
+use Rattle.ur_headline.specs.Counting.{wire_faults, next_failed, keeper_faults, IsCutOff, IsWireStatus, HasAllMarks, LeftOut, AnyWants, AllDone, WantsMemory, IsWhole}
+use Rattle.ur_headline.specs.Readings.{Serving, serving, IfServing, ForServing}
+use Rattle.ur_headline.proofs.Counting.{all_done_or_want}
+use Rattle.ur_top.specs.Sources.{ForReport, ForSource, OfSource, OfApplication, Compiles, IsCoded, IsCompiled, HasNoCode}
+use Rattle.ur_top.specs.Ends.{World, NoCalls, IsServed, IsWant, Ends, IsStatus, IsUnserved, HasFiles}
 use Rattle.ur_top.specs.declared.reporting.RunEnd.{RunEnd}
-use Rattle.ur_top.specs.declared.reporting.RunEnd.TheVariants.{Done, Usage, Refused, Shelf, Wire, Memory}
+use Rattle.ur_top.specs.declared.reporting.RunEnd.TheVariants as end
+use Rattle.ur_top.proofs.Cases.{split, nothing_in, none_cut, told_is, told_more, if_serving, of_served, at_served, of_source, from_source, no_source, not_served, clashes, none_failed}
 
--- ---- small lists
+-- a command that is reported of is not served
+check_serves : (r : Option Reading) (p : List ℕ) → r ≡ Some (Check p) → serving r ≡ None
+check_serves r p is = ap serving is
 
-split : (a x : ℕ) (xs : List ℕ) → Contains (a ∷ xs) x → (x ≡ a) ⊎ Contains xs x
-split a x xs (zero, within, is) = inl (sym is)
-split a x xs (suc k, within, is) = inr (k, omega (arith, within), is)
+sites_serves : (r : Option Reading) (p : List ℕ) → r ≡ Some (Sites p) → serving r ≡ None
+sites_serves r p is = ap serving is
 
-nothing_in : (x : ℕ) → Contains [] x → ⊥
-nothing_in x (k, within, is) = omega (arith, within)
+load_serves : (r : Option Reading) (seed n : ℕ) → r ≡ Some (Load seed n) → serving r ≡ None
+load_serves r seed n is = ap serving is
 
-none_cut : (sessions : List SessionEnd) → sessions ≡ [] → Any IsCutOff sessions → ⊥
-none_cut sessions e any = nothing (subst (λ l. Any IsCutOff l) e any) where
-  nothing : Any IsCutOff [] → ⊥
-  nothing (k, x, within, is, p) = omega (arith, within)
+serve_serves : (r : Option Reading) (p : List ℕ) (port : ℕ) (s : _) (n : ℕ) → r ≡ Some (Serve p port s n) → serving r ≢ None
+serve_serves r p port s n is none = let two = sym (ap serving is) ∙ none in cc
 
-module _ (told : Option Files) (words : List (List ℕ)) (before after : ℕ) (old new : Standing) (sessions : List SessionEnd) (status : ℕ) where
-  pub usage_only : (end : RunEnd) → Ends told words before after old new end sessions → IsStatus end status → status ≡ 1 → replayed words ≡ None
-  usage_only Usage (none, same) s e = none
-  usage_only end ends s e = absurd (grind (arith, s, e))
+module _ (told : Option Files) (reading : Option Reading) (old new : World) (sessions : List SessionEnd) (status : ℕ) where
+  abbrev EndsSo : RunEnd → Type 0
+  EndsSo e = Ends told reading old new e sessions
 
-  pub usage_is : (end : RunEnd) → Ends told words before after old new end sessions → IsStatus end status → replayed words ≡ None → Contains (1 ∷ 5 ∷ 8 ∷ []) status
-  usage_is Usage ends (inl s) e = (0, omega arith, sym s)
-  usage_is Usage ends (inr s) e = (1, omega arith, sym s)
-  usage_is (Refused file r) ((project, is, w), same) s e = absurd (cc)
-  usage_is Shelf ((project, is), rose, same) s e = absurd (cc)
-  usage_is Memory ((project, is), rest) s e = absurd (cc)
-  usage_is Done ((project, is, w), rest) s e = absurd (cc)
-  usage_is Wire ((project, is, w), rest) s e = absurd (cc)
+  pub usage_only : (e : RunEnd) → EndsSo e → IsStatus e status → status ≡ 1 → reading ≡ None
+  usage_only end.Usage (none, calls) s is = none
+  usage_only e ends s is = absurd (grind (arith, s, is))
 
-  refusal_named : (o : Option Files) (project file : List ℕ) (r : Refusal) → replayed words ≡ Some project → WhereTold o (λ files. IsRefused files project file r)
-      → WhereTold o (λ files. ForProject (replayed words) (λ project. (r : Refusal) × Refuses files project r))
-  refusal_named None project file r is w = tt
-  refusal_named (Some files) project file r is w = rw is (r, (file, w))
+  pub usage : (e : RunEnd) → EndsSo e → IsStatus e status → reading ≡ None → Contains (1 ∷ 5 ∷ 8 ∷ []) status
+  usage end.Usage ends (inl s) none = (0, omega arith, sym s)
+  usage end.Usage ends (inr s) none = (1, omega arith, sym s)
+  usage end.Memory ends (inl s) none = (2, omega arith, sym s)
+  usage end.Memory ends (inr s) none = (1, omega arith, sym s)
+  usage end.Sink ends s none = (1, omega arith, sym s)
+  usage (end.Checked routes) ((p, is, its), compiled, calls) s none = absurd (cc)
+  usage (end.Listed text) (listing, compiled, calls) s none = let is = listing.asked in absurd (cc)
+  usage (end.Loaded r) ((seed, is, its), compiled, calls) s none = absurd (cc)
+  usage (end.Refused file r) (refuses, calls) s none = absurd (no_source told reading _ none refuses)
+  usage (end.Schema kept application) other s none = absurd (other.serves (not_served reading none))
+  usage end.Shelf (some, rose, calls) s none = absurd (subst HasFiles none some)
+  usage end.Keeper (compiled, serves, rose, calls) s none = absurd (serves (not_served reading none))
+  usage end.Wire fault s none = absurd (fault.serves (not_served reading none))
+  usage end.Done served s none = absurd (served.serves (not_served reading none))
 
-  pub refused_only : (end : RunEnd) → Ends told words before after old new end sessions → IsStatus end status → status ≡ 2
-      → WhereTold told (λ files. ForProject (replayed words) (λ project. (r : Refusal) × Refuses files project r))
-  refused_only (Refused file r) ((project, is, w), same) s e = refusal_named told project file r is w
-  refused_only end ends s e = absurd (grind (arith, s, e))
+  pub refused_only : (e : RunEnd) → EndsSo e → IsStatus e status → status ≡ 2 → (file : List ℕ) × ((r : Refusal) × OfSource told reading (λ files word. Refuses files word file r))
+  refused_only (end.Refused file r) (refuses, calls) s is = (file, (r, refuses))
+  refused_only e ends s is = absurd (grind (arith, s, is))
 
-  -- the files are told and the words name a project
-  given : (o : Option Files) (P : Files → List ℕ → Type 0) → ((files : Files) (project : List ℕ) → o ≡ Some files → replayed words ≡ Some project → P files project)
-      → WhereTold o (λ files. ForProject (replayed words) (P files))
-  given None P h = tt
-  given (Some files) P h = cases (replayed words) (λ project e. h files project refl e) where
-    cases : (w : Option (List ℕ)) → ((project : List ℕ) → w ≡ Some project → P files project) → ForProject w (P files)
-    cases None h = tt
-    cases (Some project) h = h project refl
+  -- ---- refusals
 
-  -- a program, where one was found
-  accepted_is : Names told words IsAccepted → (files : Files) (project : List ℕ) → told ≡ Some files → replayed words ≡ Some project → IsAccepted files project
-  accepted_is (project', is', w) files project t is =
-      let same : Some project' ≡ Some project = sym is' ∙ is in
-      let name : project' ≡ project = cc in
-      let found : IsAccepted files project' = rw t at w in
-      subst (λ p. IsAccepted files p) name found
+  abbrev AsRefused : Files → List ℕ → Type 0
+  AsRefused files word = HasNoCode files word → Contains (2 ∷ 4 ∷ 5 ∷ 8 ∷ []) status
 
-  refused_is : Names told words (λ files project. (file : List ℕ) × (r : Refusal) × IsRefused files project file r) → (files : Files) (project : List ℕ) → told ≡ Some files → replayed words ≡ Some project
-      → (r : Refusal) × Refuses files project r
-  refused_is (project', is', w) files project t is =
-      let same : Some project' ≡ Some project = sym is' ∙ is in
-      let name : project' ≡ project = cc in
-      let found : (file : List ℕ) × (r : Refusal) × IsRefused files project' file r = rw t at w in
-      (found.1, subst (λ p. Refuses files p found.1) name (found.0, found.2))
+  as_refused : Contains (2 ∷ 4 ∷ 5 ∷ 8 ∷ []) status → ForSource told reading AsRefused
+  as_refused c = of_source told reading AsRefused (λ files word none. c)
 
-  pub refused_statuses : (end : RunEnd) → Ends told words before after old new end sessions → IsStatus end status
-      → WhereTold told (λ files. ForProject (replayed words) (λ project. (r : Refusal) → Refuses files project r → Contains (2 ∷ 4 ∷ 5 ∷ 8 ∷ []) status))
-  refused_statuses end ends s = given told (λ files project. (r : Refusal) → Refuses files project r → Contains (2 ∷ 4 ∷ 5 ∷ 8 ∷ []) status) (λ files project t is r refuses. at' files project t is r refuses end ends s) where
-    two : status ≡ 2 → Contains (2 ∷ 4 ∷ 5 ∷ 8 ∷ []) status
-    two s = (0, omega arith, sym s)
+  has_code : IsCompiled told reading → ForSource told reading AsRefused
+  has_code compiled = from_source told reading (λ files word. (app : Typed) × Accepts files word app × IsCoded app) AsRefused compiled
+      (λ files word c none. (let its : IsCoded (c.0) = c.2 in absurd (none (c.0) its.code (c.1) its.is_code)))
 
-    four : status ≡ 4 → Contains (2 ∷ 4 ∷ 5 ∷ 8 ∷ []) status
-    four s = (1, omega arith, sym s)
+  pub refused : (e : RunEnd) → EndsSo e → IsStatus e status → ForSource told reading AsRefused
+  refused end.Usage (none, calls) s = subst (λ r. ForSource told r AsRefused) (sym none) tt
+  refused (end.Refused file r) ends (inl s) = as_refused (0, omega arith, sym s)
+  refused (end.Refused file r) ends (inr (inl s)) = as_refused (2, omega arith, sym s)
+  refused (end.Refused file r) ends (inr (inr s)) = as_refused (3, omega arith, sym s)
+  refused end.Shelf ends (inl s) = as_refused (1, omega arith, sym s)
+  refused end.Shelf ends (inr s) = as_refused (2, omega arith, sym s)
+  refused end.Memory ends (inl s) = as_refused (3, omega arith, sym s)
+  refused end.Memory ends (inr s) = as_refused (2, omega arith, sym s)
+  refused end.Sink ends s = as_refused (2, omega arith, sym s)
+  refused (end.Checked routes) (is, compiled, calls) s = has_code compiled
+  refused (end.Listed text) (is, compiled, calls) s = has_code compiled
+  refused (end.Loaded r) (is, compiled, calls) s = has_code compiled
+  refused (end.Schema kept application) other s = has_code other.compiled
+  refused end.Keeper (compiled, serves, rose, calls) s = has_code compiled
+  refused end.Wire fault s = has_code fault.compiled
+  refused end.Done served s = has_code served.compiled
 
-    five : status ≡ 5 → Contains (2 ∷ 4 ∷ 5 ∷ 8 ∷ []) status
-    five s = (2, omega arith, sym s)
+  -- ---- the schema
 
-    eight : status ≡ 8 → Contains (2 ∷ 4 ∷ 5 ∷ 8 ∷ []) status
-    eight s = (3, omega arith, sym s)
+  -- the application of the files is the one that the compiler found
+  module _ (one : (files : Files) (project : List ℕ) → HasOneApplication files project) where
+    its : (P : Typed → Type 0) (files : Files) (s : Serving) (app : Typed) → told ≡ Some files → serving reading ≡ Some s → Accepts files s.project app → OfApplication told reading P → P app
+    its P files s app t is a h =
+        let found = at_served told reading (λ files word. (app : Typed) × Accepts files word app × P app) files s t is h in
+        subst P (one files s.project (found.0) app (found.1) a) (found.2)
 
-    at' : (files : Files) (project : List ℕ) → told ≡ Some files → replayed words ≡ Some project → (r : Refusal) → Refuses files project r → (end : RunEnd)
-        → Ends told words before after old new end sessions → IsStatus end status → Contains (2 ∷ 4 ∷ 5 ∷ 8 ∷ []) status
-    at' files project t is r refuses Usage (none, same) s = absurd (cc)
-    at' files project t is r refuses (Refused file r') ends (inl s) = two s
-    at' files project t is r refuses (Refused file r') ends (inr (inl s)) = five s
-    at' files project t is r refuses (Refused file r') ends (inr (inr s)) = eight s
-    at' files project t is r refuses Shelf ends (inl s) = four s
-    at' files project t is r refuses Shelf ends (inr s) = five s
-    at' files project t is r refuses Memory ends (inl s) = eight s
-    at' files project t is r refuses Memory ends (inr s) = five s
-    at' files project t is r refuses Done (names, rest) s = let a = accepted_is names files project t is in absurd (not_both files project a.0 r a.1 refuses)
-    at' files project t is r refuses Wire (names, rest) s = let a = accepted_is names files project t is in absurd (not_both files project a.0 r a.1 refuses)
+    kept_differs : (kept application schema : Schema) (k : Kept) (saved saved' : Option Tables) → application ≡ schema → k ≡ Keeps schema → AttachesTo application k (Differs kept) saved saved' → ⊥
+    kept_differs kept application schema k saved saved' same is h =
+        let at = subst (λ z. AttachesTo application z (Differs kept) saved saved') is h in
+        at.1 (sym same)
 
-  pub shelf_fault : (end : RunEnd) → Ends told words before after old new end sessions → IsStatus end status → status ≡ 4 → Rose before after
-  shelf_fault Shelf (is, rose, same) s e = rose
-  shelf_fault end ends s e = absurd (grind (arith, s, e))
+    pub schema_only : (e : RunEnd) → EndsSo e → IsStatus e status → status ≡ 3
+        → (serving reading ≢ None) × (new.saved ≡ old.saved) × (new.kept ≡ old.kept)
+        × (WhereTold told (λ files. ForServing reading (λ s. (app : Typed) → Accepts files s.project app → old.kept ≢ Keeps app.schema)))
+    schema_only (end.Schema kept application) other s is = (
+      other.serves,
+      other.same_saved,
+      other.same_kept,
+      of_served told reading (λ files s. (app : Typed) → Accepts files s.project app → old.kept ≢ Keeps app.schema)
+          (λ files s t at app a keeps. kept_differs kept application app.schema old.kept old.saved new.saved (its (λ app. application ≡ app.schema) files s app t at a other.its) keeps other.attaches),
+    )
+    schema_only e ends s is = absurd (grind (arith, s, is))
 
-  pub wire_fault : (end : RunEnd) → Ends told words before after old new end sessions → IsStatus end status → status ≡ 6
-      → Rose old.faults new.faults × ((sessions ≡ []) ⊎ Any IsCutOff sessions)
-  wire_fault Wire (names, (current, still, rose, which)) s e = (rose, which)
-  wire_fault end ends s e = absurd (grind (arith, s, e))
+    abbrev AsOther : Files → Serving → Type 0
+    AsOther files s = (app : Typed) → Compiles files s.project app → (other : Schema) → old.kept ≡ Keeps other → other ≢ app.schema
+        → Contains (3 ∷ 4 ∷ 5 ∷ 7 ∷ 8 ∷ []) status × (sessions ≡ [])
 
-  pub cut_off : (end : RunEnd) → Ends told words before after old new end sessions → IsStatus end status → Any IsCutOff sessions
-      → Contains (5 ∷ 6 ∷ []) status × Rose old.faults new.faults
-  cut_off Wire (names, (current, still, rose, which)) (inl s) any = ((1, omega arith, sym s), rose)
-  cut_off Wire (names, (current, still, rose, which)) (inr s) any = ((0, omega arith, sym s), rose)
-  cut_off Done (names, (current, still, count, none)) s any = absurd (none any)
-  cut_off Usage (none, (same, empty)) s any = absurd (none_cut sessions empty any)
-  cut_off (Refused file r) (names, (same, empty)) s any = absurd (none_cut sessions empty any)
-  cut_off Shelf (is, rose, (same, empty)) s any = absurd (none_cut sessions empty any)
-  cut_off Memory (is, (same, empty)) s any = absurd (none_cut sessions empty any)
+    as_other : Contains (3 ∷ 4 ∷ 5 ∷ 7 ∷ 8 ∷ []) status → sessions ≡ [] → WhereTold told (λ files. ForServing reading (AsOther files))
+    as_other c none = of_served told reading AsOther (λ files s t at app a other keeps differs. (c, none))
 
-  pub statuses : (end : RunEnd) → IsStatus end status → Contains (0 ∷ 1 ∷ 2 ∷ 4 ∷ 5 ∷ 6 ∷ 8 ∷ []) status
-  statuses Done s = (0, omega arith, sym s)
-  statuses Usage (inl s) = (1, omega arith, sym s)
-  statuses Usage (inr s) = (4, omega arith, sym s)
-  statuses (Refused file r) (inl s) = (2, omega arith, sym s)
-  statuses (Refused file r) (inr (inl s)) = (4, omega arith, sym s)
-  statuses (Refused file r) (inr (inr s)) = (6, omega arith, sym s)
-  statuses Shelf (inl s) = (3, omega arith, sym s)
-  statuses Shelf (inr s) = (4, omega arith, sym s)
-  statuses Wire (inl s) = (5, omega arith, sym s)
-  statuses Wire (inr s) = (4, omega arith, sym s)
-  statuses Memory (inl s) = (6, omega arith, sym s)
-  statuses Memory (inr s) = (4, omega arith, sym s)
+    not_here : serving reading ≡ None → WhereTold told (λ files. ForServing reading (AsOther files))
+    not_here none = of_served told reading AsOther (λ files s t at. absurd (clashes reading s none at))
 
-  one_of : Contains (1 ∷ 2 ∷ 4 ∷ 8 ∷ []) status → (status ≡ 1) ⊎ ((status ≡ 2) ⊎ ((status ≡ 4) ⊎ (status ≡ 8)))
-  one_of c = elim (split 1 status (2 ∷ 4 ∷ 8 ∷ []) c) [
-    | inl e ↦ inl e
-    | inr c ↦ elim (split 2 status (4 ∷ 8 ∷ []) c) [
-      | inl e ↦ inr (inl e)
-      | inr c ↦
-          elim (split 4 status (8 ∷ []) c) [ inl e ↦ inr (inr (inl e)) | inr c ↦ elim (split 8 status [] c) [ inl e ↦ inr (inr (inr e)) | inr c ↦ absurd (nothing_in status c) ] ]
-    ]
-  ]
+    attached : OfApplication told reading (λ app. (other : Schema) → old.kept ≡ Keeps other → other ≡ app.schema) → WhereTold told (λ files. ForServing reading (AsOther files))
+    attached h = of_served told reading AsOther (λ files s t at app a other keeps differs. absurd (differs (its (λ app. (other : Schema) → old.kept ≡ Keeps other → other ≡ app.schema) files s app t at (a.0) h other keeps)))
 
-  pub not_begun : (end : RunEnd) → Ends told words before after old new end sessions → IsStatus end status → Contains (1 ∷ 2 ∷ 4 ∷ 8 ∷ []) status → Untouched old new sessions
-  not_begun Usage (none, same) s c = same
-  not_begun (Refused file r) (names, same) s c = same
-  not_begun Shelf (is, rose, same) s c = same
-  not_begun Memory (is, same) s c = same
-  not_begun Done ends s c = let which = one_of c in absurd (grind (arith, s, which))
-  not_begun Wire ends s c = let which = one_of c in absurd (grind (arith, s, which))
+    -- where memory was wanting while serving, the schema that was kept is the application's
+    as_wanting : Contains (3 ∷ 4 ∷ 5 ∷ 7 ∷ 8 ∷ []) status → IsWant told reading old new sessions → WhereTold told (λ files. ForServing reading (AsOther files))
+    as_wanting c want = of_sessions (decide sessions)
+      where
+        decide : (l : List SessionEnd) → (l ≡ []) ⊎ (l ≢ [])
+        decide [] = inl refl
+        decide (s ∷ rest) = inr (λ none. cc)
 
-  untouched_idle : (o : Option Traffic) → new ≡ old → old.told ≡ o → WhereTold o (λ t. sessions ≡ [] → new.told ≡ Some t)
-  untouched_idle None same e = tt
-  untouched_idle (Some t) same e = λ empty. ap (λ (x : Standing). x.told) same ∙ e
+        of_sessions : (sessions ≡ []) ⊎ (sessions ≢ []) → WhereTold told (λ files. ForServing reading (AsOther files))
+        of_sessions (inl none) = as_other c none
+        of_sessions (inr some) = attached (want.same_schema some)
 
-  pub idle : (end : RunEnd) → Ends told words before after old new end sessions → WhereTold old.told (λ t. sessions ≡ [] → new.told ≡ Some t)
-  idle Usage (none, (same, empty)) = untouched_idle old.told same refl
-  idle (Refused file r) (names, (same, empty)) = untouched_idle old.told same refl
-  idle Shelf (is, rose, (same, empty)) = untouched_idle old.told same refl
-  idle Memory (is, (same, empty)) = untouched_idle old.told same refl
-  idle Done (names, served) = served.1
-  idle Wire (names, served) = served.1
+    pub schema : (e : RunEnd) → EndsSo e → IsStatus e status → WhereTold told (λ files. ForServing reading (AsOther files))
+    schema end.Usage (none, calls) s = not_here (not_served reading none)
+    schema (end.Checked routes) ((p, is, x), compiled, calls) s = not_here (check_serves reading p is)
+    schema (end.Listed text) (listing, compiled, calls) s = not_here (sites_serves reading listing.project listing.asked)
+    schema (end.Loaded r) ((seed, is, x), compiled, calls) s = not_here (load_serves reading seed r.requests is)
+    schema (end.Refused file r) (refuses, calls) s = of_served told reading AsOther (λ files s t at app a other keeps differs. absurd ((at_served told reading (λ files word. Refuses files word file r) files s t at refuses).none app (a.0) (a.1)))
+    schema (end.Schema kept application) ends (inl s) = as_other (0, omega arith, sym s) ends.no_calls.none
+    schema (end.Schema kept application) ends (inr (inl s)) = as_other (2, omega arith, sym s) ends.no_calls.none
+    schema (end.Schema kept application) ends (inr (inr s)) = as_other (4, omega arith, sym s) ends.no_calls.none
+    schema end.Shelf (some, rose, calls) (inl s) = as_other (1, omega arith, sym s) calls.none
+    schema end.Shelf (some, rose, calls) (inr s) = as_other (2, omega arith, sym s) calls.none
+    schema end.Keeper (compiled, serves, rose, calls) (inl s) = as_other (3, omega arith, sym s) calls.none
+    schema end.Keeper (compiled, serves, rose, calls) (inr s) = as_other (2, omega arith, sym s) calls.none
+    schema end.Sink (its, calls) s = as_other (2, omega arith, sym s) calls.none
+    schema end.Memory want (inl s) = as_wanting (4, omega arith, sym s) want
+    schema end.Memory want (inr s) = as_wanting (2, omega arith, sym s) want
+    schema end.Wire fault s = attached fault.same_schema
+    schema end.Done served s = attached served.same_schema
+
+  -- ---- faults
+
+  pub shelf_fault : (e : RunEnd) → EndsSo e → IsStatus e status → status ≡ 4 → Rose old.shelf_faults new.shelf_faults × HasFiles reading
+  shelf_fault end.Shelf (some, rose, calls) s is = (rose, some)
+  shelf_fault e ends s is = absurd (grind (arith, s, is))
+
+  pub wire_fault : (e : RunEnd) → EndsSo e → IsStatus e status → status ≡ 6 → Rose old.wire_faults new.wire_faults × IsWireStatus reading sessions
+  wire_fault end.Wire fault s is = (fault.rose, fault.status)
+  wire_fault e ends s is = absurd (grind (arith, s, is))
+
+  pub keeper_fault : (e : RunEnd) → EndsSo e → IsStatus e status → status ≡ 7 → Rose old.keeper_faults new.keeper_faults × (sessions ≡ []) × (serving reading ≢ None)
+  keeper_fault end.Keeper (compiled, serves, rose, calls) s is = (rose, calls.none, serves)
+  keeper_fault e ends s is = absurd (grind (arith, s, is))
+
+  no_next : status ≢ 6 → RoseBy (wire_faults sessions) old.wire_faults new.wire_faults → RoseBy (wire_faults sessions + next_failed reading status) old.wire_faults new.wire_faults
+  no_next other by =
+      let none : next_failed reading status ≡ 0 = none_failed reading status other in
+      let same : wire_faults sessions ≡ wire_faults sessions + next_failed reading status = omega (arith, none) in
+      subst (λ n. RoseBy n old.wire_faults new.wire_faults) same by
+
+  pub cut_off : (e : RunEnd) → EndsSo e → IsStatus e status → RoseBy (wire_faults sessions) old.wire_faults new.wire_faults
+      → RoseBy (wire_faults sessions + next_failed reading status) old.wire_faults new.wire_faults
+  cut_off end.Wire fault (inl s) by = subst (λ n. RoseBy (wire_faults sessions + next_failed reading n) old.wire_faults new.wire_faults) (sym s) fault.faults
+  cut_off end.Wire fault (inr s) by = no_next (λ is. absurd (omega (arith, s, is))) by
+  cut_off e ends s by = no_next (λ is. absurd (grind (arith, s, is))) by
+
+  pub replay_cut : (e : RunEnd) → EndsSo e → IsStatus e status → ForServing reading (λ s. Any IsCutOff sessions → reading ≡ Some (Replay s.project s.settings) → Contains (5 ∷ 6 ∷ []) status)
+  replay_cut e ends s = if_serving (serving reading) _ (λ to at any is. of_end e ends s (to.project) (to.settings) any is)
+    where
+      of_end : (e : RunEnd) → EndsSo e → IsStatus e status → (p : List ℕ) (set : _) → Any IsCutOff sessions → reading ≡ Some (Replay p set) → Contains (5 ∷ 6 ∷ []) status
+      of_end end.Done served s p set any is = absurd (served.whole p set is any)
+      of_end end.Memory want s p set any is = absurd (want.whole p set is any)
+      of_end end.Wire fault (inl s) p set any is = (1, omega arith, sym s)
+      of_end end.Wire fault (inr s) p set any is = (0, omega arith, sym s)
+      of_end end.Usage (none, calls) s p set any is = absurd (none_cut sessions calls.none any)
+      of_end (end.Checked routes) (x, compiled, calls) s p set any is = absurd (none_cut sessions calls.none any)
+      of_end (end.Listed text) (x, compiled, calls) s p set any is = absurd (none_cut sessions calls.none any)
+      of_end (end.Loaded r) (x, compiled, calls) s p set any is = absurd (none_cut sessions calls.none any)
+      of_end (end.Refused file r) (refuses, calls) s p set any is = absurd (none_cut sessions calls.none any)
+      of_end (end.Schema kept application) other s p set any is = absurd (none_cut sessions other.no_calls.none any)
+      of_end end.Shelf (some, rose, calls) s p set any is = absurd (none_cut sessions calls.none any)
+      of_end end.Keeper (compiled, serves, rose, calls) s p set any is = absurd (none_cut sessions calls.none any)
+      of_end end.Sink (x, calls) s p set any is = absurd (none_cut sessions calls.none any)
+
+  -- ---- what is left out
+
+  abbrev Left : Traffic → Serving → Type 0
+  Left t s = LeftOut (1 ∷ 2 ∷ 3 ∷ 4 ∷ 5 ∷ 6 ∷ 7 ∷ 8 ∷ []) s.most (length t.coming) status sessions
+
+  left_by : Contains (1 ∷ 2 ∷ 3 ∷ 4 ∷ 5 ∷ 6 ∷ 7 ∷ 8 ∷ []) status → WhereTold old.wire (λ t. ForServing reading (Left t))
+  left_by c = told_is old.wire _ (λ t told. if_serving (serving reading) _ (λ s at. inr (inr c)))
+
+  left_not : serving reading ≡ None → WhereTold old.wire (λ t. ForServing reading (Left t))
+  left_not none = told_is old.wire _ (λ t told. if_serving (serving reading) _ (λ s at. absurd (clashes reading s none at)))
+
+  pub left_out : (e : RunEnd) → EndsSo e → IsStatus e status → WhereTold old.wire (λ t. ForServing reading (Left t))
+  left_out end.Done served s = told_more old.wire _ _ served.all (λ t all. for_all (serving reading) t all)
+    where
+      as_left : (t : Traffic) (s : Serving) → (length sessions ≡ min s.most (length t.coming)) ⊎ HasAllMarks sessions → Left t s
+      as_left t s (inl all) = inl all
+      as_left t s (inr over) = inr (inl over)
+
+      for_all : (o : Option Serving) (t : Traffic) → IfServing o (λ s. (length sessions ≡ min s.most (length t.coming)) ⊎ HasAllMarks sessions) → IfServing o (Left t)
+      for_all None t h = tt
+      for_all (Some s) t h = as_left t s h
+  left_out end.Usage (none, calls) s = left_not (not_served reading none)
+  left_out (end.Checked routes) ((p, is, x), compiled, calls) s = left_not (check_serves reading p is)
+  left_out (end.Listed text) (listing, compiled, calls) s = left_not (sites_serves reading listing.project listing.asked)
+  left_out (end.Loaded r) ((seed, is, x), compiled, calls) s = left_not (load_serves reading seed r.requests is)
+  left_out (end.Refused file r) ends (inl s) = left_by (1, omega arith, sym s)
+  left_out (end.Refused file r) ends (inr (inl s)) = left_by (4, omega arith, sym s)
+  left_out (end.Refused file r) ends (inr (inr s)) = left_by (7, omega arith, sym s)
+  left_out (end.Schema kept application) ends (inl s) = left_by (2, omega arith, sym s)
+  left_out (end.Schema kept application) ends (inr (inl s)) = left_by (4, omega arith, sym s)
+  left_out (end.Schema kept application) ends (inr (inr s)) = left_by (7, omega arith, sym s)
+  left_out end.Shelf ends (inl s) = left_by (3, omega arith, sym s)
+  left_out end.Shelf ends (inr s) = left_by (4, omega arith, sym s)
+  left_out end.Keeper ends (inl s) = left_by (6, omega arith, sym s)
+  left_out end.Keeper ends (inr s) = left_by (4, omega arith, sym s)
+  left_out end.Wire ends (inl s) = left_by (5, omega arith, sym s)
+  left_out end.Wire ends (inr s) = left_by (4, omega arith, sym s)
+  left_out end.Sink ends s = left_by (4, omega arith, sym s)
+  left_out end.Memory ends (inl s) = left_by (7, omega arith, sym s)
+  left_out end.Memory ends (inr s) = left_by (4, omega arith, sym s)
+
+  -- ---- where serving did not begin
+
+  one_of : Contains (1 ∷ 2 ∷ 3 ∷ 4 ∷ 7 ∷ []) status → (status ≡ 1) ⊎ ((status ≡ 2) ⊎ ((status ≡ 3) ⊎ ((status ≡ 4) ⊎ (status ≡ 7))))
+  one_of c = first (split 1 status (2 ∷ 3 ∷ 4 ∷ 7 ∷ []) c)
+    where
+      fifth : (status ≡ 7) ⊎ Contains [] status → status ≡ 7
+      fifth (inl e) = e
+      fifth (inr c) = absurd (nothing_in status c)
+
+      fourth : (status ≡ 4) ⊎ Contains (7 ∷ []) status → (status ≡ 4) ⊎ (status ≡ 7)
+      fourth (inl e) = inl e
+      fourth (inr c) = inr (fifth (split 7 status [] c))
+
+      third : (status ≡ 3) ⊎ Contains (4 ∷ 7 ∷ []) status → (status ≡ 3) ⊎ ((status ≡ 4) ⊎ (status ≡ 7))
+      third (inl e) = inl e
+      third (inr c) = inr (fourth (split 4 status (7 ∷ []) c))
+
+      second : (status ≡ 2) ⊎ Contains (3 ∷ 4 ∷ 7 ∷ []) status → (status ≡ 2) ⊎ ((status ≡ 3) ⊎ ((status ≡ 4) ⊎ (status ≡ 7)))
+      second (inl e) = inl e
+      second (inr c) = inr (third (split 3 status (4 ∷ 7 ∷ []) c))
+
+      first : (status ≡ 1) ⊎ Contains (2 ∷ 3 ∷ 4 ∷ 7 ∷ []) status → (status ≡ 1) ⊎ ((status ≡ 2) ⊎ ((status ≡ 3) ⊎ ((status ≡ 4) ⊎ (status ≡ 7))))
+      first (inl e) = inl e
+      first (inr c) = inr (second (split 2 status (3 ∷ 4 ∷ 7 ∷ []) c))
+
+  pub not_begun : (e : RunEnd) → EndsSo e → IsStatus e status → Contains (1 ∷ 2 ∷ 3 ∷ 4 ∷ 7 ∷ []) status → NoCalls old new sessions
+  not_begun end.Usage (none, calls) s c = calls
+  not_begun (end.Refused file r) (refuses, calls) s c = calls
+  not_begun (end.Schema kept application) other s c = other.no_calls
+  not_begun end.Shelf (some, rose, calls) s c = calls
+  not_begun end.Keeper (compiled, serves, rose, calls) s c = calls
+  not_begun (end.Checked routes) (x, compiled, calls) s c = calls
+  not_begun (end.Listed text) (x, compiled, calls) s c = calls
+  not_begun (end.Loaded r) (x, compiled, calls) s c = calls
+  not_begun end.Sink (x, calls) s c = calls
+  not_begun end.Done ends s c = let which = one_of c in absurd (grind (arith, s, which))
+  not_begun end.Wire ends s c = let which = one_of c in absurd (grind (arith, s, which))
+  not_begun end.Memory ends s c = let which = one_of c in absurd (grind (arith, s, which))
+
+  pub unserved : (e : RunEnd) → IsStatus e status → Contains (1 ∷ 2 ∷ 3 ∷ 4 ∷ 7 ∷ []) status → IsUnserved e
+  unserved end.Done s c = let which = one_of c in absurd (grind (arith, s, which))
+  unserved end.Wire s c = let which = one_of c in absurd (grind (arith, s, which))
+  unserved end.Memory s c = let which = one_of c in absurd (grind (arith, s, which))
+  unserved end.Sink s c = let which = one_of c in absurd (grind (arith, s, which))
+  unserved e s c = tt
 
   zero_or_six : Contains (0 ∷ 6 ∷ []) status → (status ≡ 0) ⊎ (status ≡ 6)
-  zero_or_six c = elim (split 0 status (6 ∷ []) c) [ inl e ↦ inl e | inr c ↦ elim (split 6 status [] c) [ inl e ↦ inr e | inr c ↦ absurd (nothing_in status c) ] ]
+  zero_or_six c = first (split 0 status (6 ∷ []) c)
+    where
+      second : (status ≡ 6) ⊎ Contains [] status → status ≡ 6
+      second (inl e) = e
+      second (inr c) = absurd (nothing_in status c)
 
-  served : (end : RunEnd) → IsStatus end status → sessions ≡ [] → (Contains (0 ∷ 6 ∷ []) status ⊎ (sessions ≢ [])) → (status ≡ 0) ⊎ (status ≡ 6)
-  served end s empty (inl c) = zero_or_six c
-  served end s empty (inr some) = absurd (some empty)
+      first : (status ≡ 0) ⊎ Contains (6 ∷ []) status → (status ≡ 0) ⊎ (status ≡ 6)
+      first (inl e) = inl e
+      first (inr c) = inr (second (split 6 status [] c))
 
-  pub at_rest : (end : RunEnd) → Ends told words before after old new end sessions → IsStatus end status → (Contains (0 ∷ 6 ∷ []) status ⊎ (sessions ≢ [])) → new.current ≡ false
-  at_rest Done (names, served) s c = served.0
-  at_rest Wire (names, served) s c = served.0
-  at_rest Usage (none, (same, empty)) s c = let which = served Usage s empty c in absurd (grind (arith, s, which))
-  at_rest (Refused file r) (names, (same, empty)) s c = let which = served (Refused file r) s empty c in absurd (grind (arith, s, which))
-  at_rest Shelf (is, rose, (same, empty)) s c = let which = served Shelf s empty c in absurd (grind (arith, s, which))
-  at_rest Memory (is, (same, empty)) s c = let which = served Memory s empty c in absurd (grind (arith, s, which))
+  by_status : sessions ≡ [] → (Contains (0 ∷ 6 ∷ []) status ⊎ (sessions ≢ [])) → (status ≡ 0) ⊎ (status ≡ 6)
+  by_status empty (inl c) = zero_or_six c
+  by_status empty (inr some) = absurd (some empty)
 
-  pub done : (end : RunEnd) → Ends told words before after old new end sessions → IsStatus end status → status ≡ 0 → WhereTold old.told (λ t. length sessions ≡ min 1 (length t.coming))
-  done Done (names, (current, still, count, none)) s e = count
-  done end ends s e = absurd (grind (arith, s, e))
+  pub no_current : (e : RunEnd) → EndsSo e → IsStatus e status → ForServing reading (λ s. Contains (0 ∷ 6 ∷ []) status ⊎ (sessions ≢ []) → new.current ≡ false)
+  no_current e ends s = if_serving (serving reading) _ (λ to at which. of_end e ends s to at which)
+    where
+      of_end : (e : RunEnd) → EndsSo e → IsStatus e status → (to : Serving) → serving reading ≡ Some to → Contains (0 ∷ 6 ∷ []) status ⊎ (sessions ≢ []) → new.current ≡ false
+      of_end end.Done served s to at which = served.none_current
+      of_end end.Wire fault s to at which = fault.none_current
+      of_end end.Memory want s to at (inl c) = let which = zero_or_six c in absurd (grind (arith, s, which))
+      of_end end.Memory want s to at (inr some) = want.none_current some
+      of_end end.Usage (none, calls) s to at which = absurd (clashes reading to (not_served reading none) at)
+      of_end (end.Checked routes) ((p, is, x), compiled, calls) s to at which = absurd (clashes reading to (check_serves reading p is) at)
+      of_end (end.Listed text) (listing, compiled, calls) s to at which = absurd (clashes reading to (sites_serves reading listing.project listing.asked) at)
+      of_end (end.Loaded r) ((seed, is, x), compiled, calls) s to at which = absurd (clashes reading to (load_serves reading seed r.requests is) at)
+      of_end (end.Refused file r) (refuses, calls) s to at which = let is = by_status calls.none which in absurd (grind (arith, s, is))
+      of_end (end.Schema kept application) other s to at which = let is = by_status other.no_calls.none which in absurd (grind (arith, s, is))
+      of_end end.Shelf (some, rose, calls) s to at which = let is = by_status calls.none which in absurd (grind (arith, s, is))
+      of_end end.Keeper (compiled, serves, rose, calls) s to at which = let is = by_status calls.none which in absurd (grind (arith, s, is))
+      of_end end.Sink (x, calls) s to at which = let is = by_status calls.none which in absurd (grind (arith, s, is))
 
-  pub complete : (sink : Type 0) (end : RunEnd) → Ends told words before after old new end sessions → IsStatus end status → (status ≡ 5 → sink)
-      → WhereTold told (λ files. ForProject (replayed words) (λ project. (program : Program) → Accepts files project program
-      → ¬ (Rose before after) → ¬ (Rose old.faults new.faults) → ¬ sink → Contains (0 ∷ 8 ∷ []) status))
-  complete sink end ends s fault = given told (λ files project. (program : Program) → Accepts files project program → ¬ (Rose before after) → ¬ (Rose old.faults new.faults) → ¬ sink → Contains (0 ∷ 8 ∷ []) status)
-      (λ files project t is program a shelf wire out. at' files project t is program a shelf wire out end ends s) where
-        at' : (files : Files) (project : List ℕ) → told ≡ Some files → replayed words ≡ Some project → (program : Program) → Accepts files project program
-            → ¬ (Rose before after) → ¬ (Rose old.faults new.faults) → ¬ sink → (end : RunEnd) → Ends told words before after old new end sessions → IsStatus end status → Contains (0 ∷ 8 ∷ []) status
-        at' files project t is program a shelf wire out Usage (none, same) s = absurd (cc)
-        at' files project t is program a shelf wire out (Refused file r) (names, same) s =
-            let found = refused_is (names.0, names.1, widen told names.2) files project t is in absurd (not_both files project program found.0 a found.1) where
-              widen : (o : Option Files) → WhereTold o (λ files. IsRefused files names.0 file r) → WhereTold o (λ files. (file : List ℕ) × (r : Refusal) × IsRefused files names.0 file r)
-              widen None w = tt
-              widen (Some f) w = (file, r, w)
-        at' files project t is program a shelf wire out Shelf (named, rose, same) s = absurd (shelf rose)
-        at' files project t is program a shelf wire out Wire (names, (current, still, rose, which)) s = absurd (wire rose)
-        at' files project t is program a shelf wire out Memory ends (inl s) = (1, omega arith, sym s)
-        at' files project t is program a shelf wire out Memory ends (inr s) = absurd (out (fault s))
-        at' files project t is program a shelf wire out Done ends s = (0, omega arith, sym s)
+  pub statuses : (e : RunEnd) → IsStatus e status → Contains (0 ∷ 1 ∷ 2 ∷ 3 ∷ 4 ∷ 5 ∷ 6 ∷ 7 ∷ 8 ∷ []) status
+  statuses end.Done s = (0, omega arith, sym s)
+  statuses (end.Checked routes) (inl s) = (0, omega arith, sym s)
+  statuses (end.Checked routes) (inr (inl s)) = (5, omega arith, sym s)
+  statuses (end.Checked routes) (inr (inr s)) = (8, omega arith, sym s)
+  statuses (end.Listed text) (inl s) = (0, omega arith, sym s)
+  statuses (end.Listed text) (inr s) = (5, omega arith, sym s)
+  statuses (end.Loaded r) (inl s) = (0, omega arith, sym s)
+  statuses (end.Loaded r) (inr (inl s)) = (5, omega arith, sym s)
+  statuses (end.Loaded r) (inr (inr s)) = (8, omega arith, sym s)
+  statuses end.Usage (inl s) = (1, omega arith, sym s)
+  statuses end.Usage (inr s) = (5, omega arith, sym s)
+  statuses (end.Refused file r) (inl s) = (2, omega arith, sym s)
+  statuses (end.Refused file r) (inr (inl s)) = (5, omega arith, sym s)
+  statuses (end.Refused file r) (inr (inr s)) = (8, omega arith, sym s)
+  statuses (end.Schema kept application) (inl s) = (3, omega arith, sym s)
+  statuses (end.Schema kept application) (inr (inl s)) = (5, omega arith, sym s)
+  statuses (end.Schema kept application) (inr (inr s)) = (8, omega arith, sym s)
+  statuses end.Shelf (inl s) = (4, omega arith, sym s)
+  statuses end.Shelf (inr s) = (5, omega arith, sym s)
+  statuses end.Sink s = (5, omega arith, sym s)
+  statuses end.Wire (inl s) = (6, omega arith, sym s)
+  statuses end.Wire (inr s) = (5, omega arith, sym s)
+  statuses end.Keeper (inl s) = (7, omega arith, sym s)
+  statuses end.Keeper (inr s) = (5, omega arith, sym s)
+  statuses end.Memory (inl s) = (8, omega arith, sym s)
+  statuses end.Memory (inr s) = (5, omega arith, sym s)
 
-  -- ---- what is printed
+  -- ---- completeness
 
-  said_at : (at' : ℕ) (text said : List ℕ) → Prints told words at' text → SaysAt at' text status said → Prints told words status said
-  said_at at' text said p (inl (s, e)) = rw (s, e) p
-  said_at at' text said p (inr (s, front)) = rw s (Prints.cut at' text said p front)
+  module _ (one : (files : Files) (project : List ℕ) → HasOneApplication files project) (sink : Type 0) (fault : status ≡ 5 → sink)
+      (keeper : RoseBy (keeper_faults sessions) old.keeper_faults new.keeper_faults) where
+    abbrev Whole : Serving → Type 0
+    Whole s = Contains (0 ∷ 8 ∷ []) status × WhereTold old.wire (λ t. WantsMemory status sessions ⊎ IsWhole s.most (length t.coming) status sessions)
 
-  named : (o : Option Files) (w : Option (List ℕ)) (project file : List ℕ) (r : Refusal) → w ≡ Some project → WhereTold o (λ files. IsRefused files project file r)
-      → WhereTold o (λ files. ForProject w (λ project. IsRefused files project file r))
-  named None w project file r is h = tt
-  named (Some files) w project file r is h = rw is h
+    abbrev AsWhole : Files → Serving → Type 0
+    AsWhole files s = (app : Typed) → Compiles files s.project app → (old.kept ≡ Empty) ⊎ (old.kept ≡ Keeps app.schema)
+        → ¬ (Rose old.shelf_faults new.shelf_faults) → ¬ (Rose old.wire_faults new.wire_faults) → ¬ (Rose old.keeper_faults new.keeper_faults) → ¬ sink → Whole s
 
-  pub prints : (end : RunEnd) (said : List ℕ) → Ends told words before after old new end sessions → Reports end status said → Prints told words status said
-  prints Done said ends (s, e) = rw (s, e) Prints.quiet
-  prints Usage said ends says = said_at 1 usage said Prints.is_usage says
-  prints (Refused file r) said ((project, is, w), same) (inl says) =
-      said_at 2 (refusal_line file r) said (Prints.refusal file r (refusal_line file r) (named told (replayed words) project file r is w) refl) says
-  prints (Refused file r) said ends (inr says) = said_at 8 (codes "memory" ++ 10 ∷ []) said Prints.memory says
-  prints Shelf said ends says = said_at 4 (codes "shelf fault" ++ 10 ∷ []) said Prints.shelf_fault says
-  prints Wire said ends says = said_at 6 (codes "wire fault" ++ 10 ∷ []) said Prints.wire_fault says
-  prints Memory said ends says = said_at 8 (codes "memory" ++ 10 ∷ []) said Prints.memory says
+    wanting : (s : Serving) → status ≡ 8 → Whole s
+    wanting s is = ((1, omega arith, sym is), told_is old.wire _ (λ t told. inl (inl is)))
 
--- the same text, by another fact of it
-pub same_text : (o new : Option (List ℕ)) (P Q : List ℕ → Type 0) → ((text : List ℕ) → P text → Q text)
-    → WhereTold o (λ before. (text : List ℕ) × (new ≡ Some (before ++ text)) × P text) → WhereTold o (λ before. (text : List ℕ) × (new ≡ Some (before ++ text)) × Q text)
-same_text None new P Q h w = tt
-same_text (Some before) new P Q h (text, is, p) = (text, is, h text p)
+    whole : (served : IsServed told reading old new sessions) → status ≡ 0 → (s : Serving) → serving reading ≡ Some s → ¬ (Rose old.keeper_faults new.keeper_faults) → Whole s
+    whole served is s at none = ((0, omega arith, sym is), told_more old.wire _ _ served.all (λ t all. each t (one_serving (serving reading) at t all) (all_done_or_want sessions old.keeper_faults new.keeper_faults keeper none)))
+      where
+        one_serving : (o : Option Serving) → o ≡ Some s → (t : Traffic) → IfServing o (λ s. (length sessions ≡ min s.most (length t.coming)) ⊎ HasAllMarks sessions) → (length sessions ≡ min s.most (length t.coming)) ⊎ HasAllMarks sessions
+        one_serving o at t h = subst (λ z. IfServing z (λ s. (length sessions ≡ min s.most (length t.coming)) ⊎ HasAllMarks sessions)) at h
+
+        each : (t : Traffic) → (length sessions ≡ min s.most (length t.coming)) ⊎ HasAllMarks sessions → AllDone sessions ⊎ AnyWants sessions
+            → WantsMemory status sessions ⊎ IsWhole s.most (length t.coming) status sessions
+        each t all (inl done) = inr (record { done = is; marked = done; all = all })
+        each t all (inr wants) = inl (inr wants)
+
+    differs_not : (kept application schema : Schema) (k : Kept) (saved saved' : Option Tables) → application ≡ schema → (k ≡ Empty) ⊎ (k ≡ Keeps schema) → AttachesTo application k (Differs kept) saved saved' → ⊥
+    differs_not kept application schema k saved saved' same (inl is) h = subst (λ z. AttachesTo application z (Differs kept) saved saved') is h
+    differs_not kept application schema k saved saved' same (inr is) h = kept_differs one kept application schema k saved saved' same is h
+
+    pub complete : (e : RunEnd) → EndsSo e → IsStatus e status → WhereTold told (λ files. ForServing reading (AsWhole files))
+    complete e ends s = of_served told reading AsWhole (λ files to t at app c kept shelf wire none out. of_end e ends s files to t at app c kept shelf wire none out)
+      where
+        of_end : (e : RunEnd) → EndsSo e → IsStatus e status → (files : Files) (to : Serving) → told ≡ Some files → serving reading ≡ Some to → AsWhole files to
+        of_end end.Done served s files to t at app c kept shelf wire none out = whole served s to at none
+        of_end end.Memory want (inl s) files to t at app c kept shelf wire none out = wanting to s
+        of_end end.Memory want (inr s) files to t at app c kept shelf wire none out = absurd (out (fault s))
+        of_end end.Usage (wordless, calls) s files to t at app c kept shelf wire none out = absurd (clashes reading to (not_served reading wordless) at)
+        of_end (end.Checked routes) ((p, is, x), compiled, calls) s files to t at app c kept shelf wire none out = absurd (clashes reading to (check_serves reading p is) at)
+        of_end (end.Listed text) (listing, compiled, calls) s files to t at app c kept shelf wire none out = absurd (clashes reading to (sites_serves reading listing.project listing.asked) at)
+        of_end (end.Loaded r) ((seed, is, x), compiled, calls) s files to t at app c kept shelf wire none out = absurd (clashes reading to (load_serves reading seed r.requests is) at)
+        of_end (end.Refused file r) (refuses, calls) s files to t at app c kept shelf wire none out = absurd ((at_served told reading (λ files word. Refuses files word file r) files to t at refuses).none app (c.0) (c.1))
+        of_end (end.Schema other application) differs s files to t at app c kept shelf wire none out =
+            absurd (differs_not other application app.schema old.kept old.saved new.saved (its one (λ app. application ≡ app.schema) files to app t at (c.0) differs.its) kept differs.attaches)
+        of_end end.Shelf (some, rose, calls) s files to t at app c kept shelf wire none out = absurd (shelf rose)
+        of_end end.Keeper (compiled, serves, rose, calls) s files to t at app c kept shelf wire none out = absurd (none rose)
+        of_end end.Sink (x, calls) s files to t at app c kept shelf wire none out = absurd (out (fault s))
+        of_end end.Wire its_fault s files to t at app c kept shelf wire none out = absurd (wire its_fault.rose)
+
+  -- the commands that report
+  module _ (sink : Type 0) (fault : status ≡ 5 → sink) where
+    abbrev AsReported : Files → List ℕ → Type 0
+    AsReported files p = (app : Typed) → Compiles files p app → ¬ (Rose old.shelf_faults new.shelf_faults) → ¬ sink → Contains (0 ∷ 8 ∷ []) status
+
+    reported : (r : Option Reading) (p : List ℕ) → reading ≡ r → serving r ≡ None → ((file : List ℕ) (f : Refusal) (files : Files) → told ≡ Some files → OfSource told r (λ files word. Refuses files word file f) → Refuses files p file f)
+        → (r ≡ None → ⊥) → (e : RunEnd) → EndsSo e → IsStatus e status → WhereTold told (λ files. AsReported files p)
+    reported r p is none refusal some end.Usage (wordless, calls) s = absurd (some (sym is ∙ wordless))
+    reported r p is none refusal some (end.Checked routes) ends (inl s) = told_is told _ (λ files t app c shelf out. (0, omega arith, sym s))
+    reported r p is none refusal some (end.Checked routes) ends (inr (inl s)) = told_is told _ (λ files t app c shelf out. absurd (out (fault s)))
+    reported r p is none refusal some (end.Checked routes) ends (inr (inr s)) = told_is told _ (λ files t app c shelf out. (1, omega arith, sym s))
+    reported r p is none refusal some (end.Listed text) ends (inl s) = told_is told _ (λ files t app c shelf out. (0, omega arith, sym s))
+    reported r p is none refusal some (end.Listed text) ends (inr s) = told_is told _ (λ files t app c shelf out. absurd (out (fault s)))
+    reported r p is none refusal some (end.Loaded x) ends (inl s) = told_is told _ (λ files t app c shelf out. (0, omega arith, sym s))
+    reported r p is none refusal some (end.Loaded x) ends (inr (inl s)) = told_is told _ (λ files t app c shelf out. absurd (out (fault s)))
+    reported r p is none refusal some (end.Loaded x) ends (inr (inr s)) = told_is told _ (λ files t app c shelf out. (1, omega arith, sym s))
+    reported r p is none refusal some (end.Refused file f) (refuses, calls) s =
+        told_is told _ (λ files t app c shelf out. absurd ((refusal file f files t (subst (λ z. OfSource told z (λ files word. Refuses files word file f)) is refuses)).none app (c.0) (c.1)))
+    reported r p is none refusal some (end.Schema kept application) other s = absurd (other.serves (ap serving is ∙ none))
+    reported r p is none refusal some end.Shelf (x, rose, calls) s = told_is told _ (λ files t app c shelf out. absurd (shelf rose))
+    reported r p is none refusal some end.Keeper (compiled, serves, rose, calls) s = absurd (serves (ap serving is ∙ none))
+    reported r p is none refusal some end.Sink ((q, port, set, n, at), calls) s = absurd (serve_serves reading q port set n at (ap serving is ∙ none))
+    reported r p is none refusal some end.Wire wire s = absurd (wire.serves (ap serving is ∙ none))
+    reported r p is none refusal some end.Done served s = absurd (served.serves (ap serving is ∙ none))
+    reported r p is none refusal some end.Memory ends (inl s) = told_is told _ (λ files t app c shelf out. (1, omega arith, sym s))
+    reported r p is none refusal some end.Memory ends (inr s) = told_is told _ (λ files t app c shelf out. absurd (out (fault s)))
+
+    each_report : (r : Option Reading) → reading ≡ r → (e : RunEnd) → EndsSo e → IsStatus e status → WhereTold told (λ files. ForReport r (AsReported files))
+    each_report None is e ends s = told_is told _ (λ files t. tt)
+    each_report (Some (Check p)) is e ends s = reported (Some (Check p)) p is refl (λ file f files t h. subst (λ z. WhereTold z (λ files. Refuses files p file f)) t h) (λ n. cc) e ends s
+    each_report (Some (Sites p)) is e ends s = reported (Some (Sites p)) p is refl (λ file f files t h. subst (λ z. WhereTold z (λ files. Refuses files p file f)) t h) (λ n. cc) e ends s
+    each_report (Some (Replay p x)) is e ends s = told_is told _ (λ files t. tt)
+    each_report (Some (Serve p port x n)) is e ends s = told_is told _ (λ files t. tt)
+    each_report (Some (Load seed n)) is e ends s = told_is told _ (λ files t. tt)
+
+    pub complete_report : (e : RunEnd) → EndsSo e → IsStatus e status → WhereTold told (λ files. ForReport reading (AsReported files))
+    complete_report e ends s = each_report reading refl e ends s
+
+    abbrev AsLoaded : Files → List ℕ → Type 0
+    AsLoaded files word = (app : Typed) → Compiles files word app → ¬ sink → Contains (0 ∷ 8 ∷ []) status
+
+    as_loaded : Contains (0 ∷ 8 ∷ []) status → ForSource told reading AsLoaded
+    as_loaded c = of_source told reading AsLoaded (λ files word app compiles out. c)
+
+    failed : status ≡ 5 → ForSource told reading AsLoaded
+    failed s = of_source told reading AsLoaded (λ files word app compiles out. absurd (out (fault s)))
+
+    pub complete_load : (seed n : ℕ) → reading ≡ Some (Load seed n) → (e : RunEnd) → EndsSo e → IsStatus e status → ForSource told reading AsLoaded
+    complete_load seed n is (end.Checked routes) ends (inl s) = as_loaded (0, omega arith, sym s)
+    complete_load seed n is (end.Checked routes) ends (inr (inl s)) = failed s
+    complete_load seed n is (end.Checked routes) ends (inr (inr s)) = as_loaded (1, omega arith, sym s)
+    complete_load seed n is (end.Listed text) ends (inl s) = as_loaded (0, omega arith, sym s)
+    complete_load seed n is (end.Listed text) ends (inr s) = failed s
+    complete_load seed n is (end.Loaded r) ends (inl s) = as_loaded (0, omega arith, sym s)
+    complete_load seed n is (end.Loaded r) ends (inr (inl s)) = failed s
+    complete_load seed n is (end.Loaded r) ends (inr (inr s)) = as_loaded (1, omega arith, sym s)
+    complete_load seed n is end.Memory ends (inl s) = as_loaded (1, omega arith, sym s)
+    complete_load seed n is end.Memory ends (inr s) = failed s
+    complete_load seed n is end.Usage (none, calls) s = absurd (cc)
+    complete_load seed n is (end.Refused file r) (refuses, calls) s =
+        from_source told reading (λ files word. Refuses files word file r) AsLoaded refuses (λ files word x app c out. absurd (x.none app (c.0) (c.1)))
+    complete_load seed n is (end.Schema kept application) other s = absurd (other.serves (load_serves reading seed n is))
+    complete_load seed n is end.Shelf (some, rose, calls) s = absurd (subst HasFiles is some)
+    complete_load seed n is end.Keeper (compiled, serves, rose, calls) s = absurd (serves (load_serves reading seed n is))
+    complete_load seed n is end.Sink ((q, port, set, m, at), calls) s = absurd (serve_serves reading q port set m at (load_serves reading seed n is))
+    complete_load seed n is end.Wire wire s = absurd (wire.serves (load_serves reading seed n is))
+    complete_load seed n is end.Done served s = absurd (served.serves (load_serves reading seed n is))

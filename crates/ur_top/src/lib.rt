@@ -1,20 +1,18 @@
-//! The top call: one request for one of a project's pages is answered.
+//! The top call: a project is checked, its sites are listed, or its requests are answered.
 #![tactic(auto)]
 
-mod answers;
-mod handlers;
-mod input;
-mod links;
+mod compiled;
+mod connections;
+mod loads;
+mod notes;
+mod one;
 mod outcome;
-mod pages;
 mod reporting;
 mod reports;
-mod requests;
 mod running;
 mod serving;
-mod sessions;
+mod starting;
 
-pub use links::{accepted_are_plain, links_lead_back};
+pub use loads::load;
 pub use outcome::Outcome;
 pub use running::run;
-pub use ur_load::Program;

@@ -1,50 +1,49 @@
-//! The texts of reports.
-ghost use Rattle.std.specs.Prelude.{◌≡◌, ◌∷◌, ◌++◌, [], IfOk, codes};
-ghost use Rattle.ur_top.specs.Reports.{refusal_line as line_of_refusal, usage};
+//! The commands that compile a project and tell of it.
+ghost use Rattle.std.specs.Prelude.{◌≡◌, ◌≤◌};
+ghost use Rattle.ur_answers.specs.Answers.{ArePatternsOf};
+ghost use Rattle.ur_compile.specs.Kept.{IsCodeFor};
+ghost use Rattle.ur_top.specs.Sources.{OfFiles};
+ghost use Rattle.ur_top.specs.Starting.{IsChecked, IsSited};
 
+use crate::compiled::compiled;
+use crate::reporting::RunEnd;
 use std::alloc::Global;
-use ur_base::{Bytes, List, Memory, Refusal};
+use ur_base::Text;
+use ur_compile::Compiled;
+use ur_io::Shelf;
+use ur_sites::sites_text;
 
-/// The line of a refusal, with the name of its file.
-pub fn refusal_line(alloc: Global, file: &[u8], refusal: &Refusal) -> Result<Bytes, Memory>
-    ensures { IfOk result (λ line. line ≡ line_of_refusal file.now refusal.now) }
+/// How many routes the project has.
+pub(crate) fn check<S: Shelf>(alloc: Global, shelf: &mut S, project: &Text) -> RunEnd
+    ensures ends { IsChecked (S.told shelf.old) project.now (S.faults shelf.old) (S.faults shelf.new) result }
+    ensures never_falls { S.faults shelf.old ≤ S.faults shelf.new }
+    ensures kept { S.told shelf.new ≡ S.told shelf.old }
 {
-    let code = refusal.code;
-    let from = refusal.span.from;
-    let to = refusal.span.to;
-    let place = format!(in alloc; ":{from}-{to} ")?;
-    let mut line = List::new(alloc);
-    line.extend_from_slice(&[b'E', b'0' + code / 10, b'0' + code % 10, b' '])?;
-    line.extend_from_slice(file)?;
-    line.extend_from_slice(place.as_bytes())?;
-    line.extend_from_slice(refusal.left.as_slice())?;
-    line.extend_from_slice(b" | ")?;
-    line.extend_from_slice(refusal.right.as_slice())?;
-    line.push(b'\n')?;
-    Ok(line)
+    match compiled(alloc, shelf, project) {
+        Ok(compiled) => RunEnd::Checked(compiled.verified.code().handlers.routes.len()),
+        Err(end) => end,
+    }
 }
 
-/// The line for words that read as no command.
-pub fn usage_line() -> &'static [u8]
-    ensures { result.now ≡ usage }
+/// The sites of the project, and what each of its updates drops.
+pub(crate) fn sites<S: Shelf>(alloc: Global, shelf: &mut S, project: &Text) -> RunEnd
+    ensures ends { IsSited (S.told shelf.old) project.now (S.faults shelf.old) (S.faults shelf.new) result }
+    ensures never_falls { S.faults shelf.old ≤ S.faults shelf.new }
+    ensures kept { S.told shelf.new ≡ S.told shelf.old }
 {
-    b"usage: urweb check P | sites P | replay P | serve P --port n | load SEED N\n"
+    match compiled(alloc, shelf, project) {
+        Ok(compiled) => listed(alloc, &compiled),
+        Err(end) => end,
+    }
 }
 
-pub fn shelf_fault_line() -> &'static [u8]
-    ensures { result.now ≡ codes "shelf fault" ++ 10 ∷ [] }
+fn listed(alloc: Global, compiled: &Compiled) -> RunEnd
+    requires { ArePatternsOf compiled.now.verified compiled.now.patterns }
+    ensures ends { (told : _) (word : _) (faults faults' : _) → OfFiles told word (λ app. IsCodeFor app compiled.now.verified) → IsSited told word faults faults' result }
 {
-    b"shelf fault\n"
-}
-
-pub fn wire_fault_line() -> &'static [u8]
-    ensures { result.now ≡ codes "wire fault" ++ 10 ∷ [] }
-{
-    b"wire fault\n"
-}
-
-pub fn memory_line() -> &'static [u8]
-    ensures { result.now ≡ codes "memory" ++ 10 ∷ [] }
-{
-    b"memory\n"
+    let code = compiled.verified.code();
+    match sites_text(alloc, &code.queries, &code.changes, &compiled.patterns) {
+        Ok(text) => RunEnd::Listed(text),
+        Err(_) => RunEnd::Memory,
+    }
 }

@@ -1,5 +1,5 @@
 use Rattle.std.proofs.Common.{◌∙◌, ◌+◌, ◌∷◌, ◌++◌, [], true, false, ◌≡◌, inl, inr, sym, ap, subst, drop}
-use Rattle.ur_page.specs.Words.{is_module_name, is_one_of}
+use Rattle.ur_project.specs.Words.{is_module_name, is_one_of}
 use Rattle.ur_project.specs.Placed.{texts}
 use Rattle.ur_project.specs.Project.{AreModules}
 use Rattle.ur_project.proofs.Listed.{rest_item, not_name, fit_more, named_more}

@@ -1,0 +1,34 @@
+//! Worked cases of whole runs. docs/CASES.md has the form of a case.
+#![tactic(auto)]
+
+mod devices;
+mod given;
+mod requests;
+mod runs;
+mod start;
+mod tables;
+
+use case_files::{Printer, Subjects, run};
+use runs::put_runs;
+use std::alloc::Global;
+use std::process::ExitCode;
+use ur_base::{Memory, Text};
+
+/// Whole runs.
+struct WholeRuns;
+
+impl Subjects for WholeRuns {
+    fn has(&self, word: &str) -> bool {
+        word == "run"
+    }
+
+    fn outcome(&self, alloc: Global, _word: &str, text: &str) -> Result<Text, Memory> {
+        let mut p = Printer::new(alloc);
+        put_runs(alloc, text, &mut p)?;
+        p.finish()
+    }
+}
+
+fn main(rt: HostRuntime) -> ExitCode {
+    run(&rt, &WholeRuns)
+}

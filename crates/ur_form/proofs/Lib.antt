@@ -1,4 +1,0 @@
-pub mod FormLists
-pub mod Values
-pub mod Equations
-pub mod Plain

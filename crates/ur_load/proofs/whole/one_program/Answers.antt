@@ -1,5 +1,0 @@
-use Rattle.ur_load.proofs.Laws as laws
-use Rattle.ur_load.proofs.whole.one_program.Goals as goal
-
-pub returns : goal.returns
-returns c = laws.one_program

@@ -1,0 +1,1 @@
+val list : string -> transaction page
