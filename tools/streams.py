@@ -1,0 +1,241 @@
+"""Streams of requests to the notes: good ones with the answers that must come, and mutated ones, all from a number."""
+import collections, random
+
+# The bytes of a connection, where they are cut, how it ends (`half`: the client stops sending and reads on; `open`: it goes on
+# waiting; `away`: it is gone at once), and the answers that must come, or None. An expected answer is a status, whether the
+# connection closes, and whether the head comes alone.
+Stream = collections.namedtuple("Stream", "data cuts end wanted")
+Seed = collections.namedtuple("Seed", "data wanted")
+
+HOST = b"Host: localhost"
+FORM = b"Content-Type: application/x-www-form-urlencoded"
+FIELDS = [
+    HOST, FORM, b"Host: other", b"Content-Length: 0", b"Content-Length: 5", b"Content-Length: +5", b"Content-Length: 1048576",
+    b"Content-Length: 1048577", b"Content-Length: 18446744073709551616", b"content-length: 3", b"Content-Length:", b"Content-Length: 0x5",
+    b"Transfer-Encoding: chunked", b"Transfer-Encoding: identity", b"transfer-encoding:", b"Connection: close", b"Connection: keep-alive",
+    b"connection: x, CLOSE", b"Connection: Upgrade", b"Upgrade: h2c", b"Expect: 100-continue", b"Cookie: Main.c=1; a=b", b"X: \xff\xfe",
+    b"X:\ty", b" folded: x", b"NoColon", b": empty", b"X : y", b"Content-Length : 4", b"Accept-Encoding: gzip",
+]
+PIECES = [
+    b"\r\n", b"\r\n\r\n", b"\n", b"\r", b"\0", b" ", b"\t", b":", b"%", b"%00", b"%FF", b"%2F", b"%", b"_", b"/", b"//", b"/../", b"?", b"#",
+    b"HTTP/1.1", b"HTTP/1.0", b"HTTP/2.0", b"http://a", b"https://b/", b"*", b"GET ", b"HEAD ", b"POST ", b"\xc3\xa9", b"\xff" * 3, b"&", b"=", b"+",
+]
+NUMBERS = [b"0", b"1", b"-1", b"+1", b"00000", b"65536", b"1048576", b"1048577", b"4294967296", b"9223372036854775808", b"18446744073709551616", b""]
+OWNERS = [b"o%d" % number for number in range(60)]
+
+
+def head(method, target, *fields, version=b"HTTP/1.1"):
+    """Returns the bytes of a head."""
+    return b"\r\n".join([method + b" " + target + b" " + version, *fields, b"", b""])
+
+
+def post(target, body, *fields):
+    """Returns the bytes of a request with a form."""
+    return head(b"POST", target, HOST, FORM, b"Content-Length: %d" % len(body), *fields) + body
+
+
+def kept(data, status=200):
+    return Seed(data, (status, False, data.startswith(b"HEAD ")))
+
+
+def closed(data, status):
+    return Seed(data, (status, True, data.startswith(b"HEAD ")))
+
+
+def good_seeds(who, number):
+    """Requests that the program's pages lead to, in several spellings."""
+    return [
+        kept(head(b"GET", b"/Main/list/" + who, HOST)),
+        kept(head(b"HEAD", b"/Main/list/" + who, HOST)),
+        kept(post(b"/Main/add/" + who, b"Body=a+text+%26+more")),
+        kept(post(b"/Main/add/" + who, b"x=1&Body=%3Cp%3E&Body=second")),
+        kept(post(b"/Main/add/" + who, b"Body=%FF%00&Body", b"Accept: */*")),
+        kept(post(b"/Main/drop/" + number, b"")),
+        kept(post(b"/Main/move/" + number, b"To=" + who)),
+        kept(head(b"GET", b"/Main/list/" + who + b"?a=/b", b"host:localhost", b"Cookie: a=b; c")),
+        kept(head(b"GET", b"http://localhost:80/Main/list/" + who, HOST)),
+        kept(head(b"GET", b"/Main/list/%C3%A9%20" + who, HOST)),
+        kept(head(b"GET", b"/Main/list/_", HOST, *[b"X%d: y" % field for field in range(63)])),
+        kept(head(b"GET", b"/Main/list/" + who, HOST, b"Content-Length: 3") + b"abc"),
+        closed(head(b"GET", b"/Main/list/" + who, HOST, b"Connection: x, Close"), 200),
+        closed(head(b"GET", b"/Main/list/" + who, version=b"HTTP/1.0"), 200),
+        kept(head(b"GET", b"/Main/list/" + who, HOST, b"User-Agent: Mozilla/5.0 (X11)", b"Accept: text/html,*/*;q=0.8", b"Accept-Language: en")),
+    ]
+
+
+def refused_seeds(who, number):
+    """Requests whose answers keep the connection, though they are no page."""
+    return [
+        kept(head(b"GET", b"/", HOST), 404),
+        kept(head(b"GET", b"/favicon.ico", HOST), 404),
+        kept(head(b"GET", b"/Main/list", HOST), 404),
+        kept(head(b"HEAD", b"/Main/list/" + who + b"/", HOST), 404),
+        kept(head(b"GET", b"/Main/list/%FF", HOST), 404),
+        kept(head(b"GET", b"http://localhost", HOST), 404),
+        kept(post(b"/Main/drop/0" + number, b""), 404),
+        kept(head(b"GET", b"/Main/add/" + who, HOST), 405),
+        kept(head(b"HEAD", b"/Main/drop/" + number, HOST), 405),
+        kept(post(b"/Main/list/" + who, b"Body=x"), 405),
+        kept(post(b"/Main/add/" + who, b"body=x"), 400),
+        kept(post(b"/Main/move/" + number, b""), 400),
+        kept(head(b"DELETE", b"/Main/list/" + who, HOST), 501),
+        kept(head(b"get", b"/Main/list/" + who, HOST), 501),
+        kept(head(b"PUT", b"/Main/add/" + who, HOST, b"Content-Length: 6") + b"Body=x", 501),
+    ]
+
+
+def bad_seeds(who):
+    """Requests whose answers close the connection."""
+    target = b"/Main/list/" + who
+    return [
+        closed(head(b"GET", target), 400),
+        closed(head(b"GET", target, HOST, HOST), 400),
+        closed(head(b"OPTIONS", b"*", HOST), 400),
+        closed(head(b"POST", target, HOST, b"Content-Length: +5") + b"Body=", 400),
+        closed(head(b"POST", target, HOST, b"Content-Length: 5", b"content-length: 5") + b"Body=", 400),
+        closed(head(b"POST", target, HOST, b"Content-Length: 1048577"), 413),
+        closed(head(b"POST", b"/Main/add/" + who, HOST, b"Transfer-Encoding: chunked") + b"6\r\nBody=x\r\n0\r\n\r\n", 501),
+        closed(head(b"POST", b"/Main/add/" + who, HOST, b"Transfer-Encoding: chunked", b"Content-Length: 6") + b"Body=x", 501),
+        closed(head(b"GET", target, HOST, b"X: " + b"y" * 16384), 431),
+        closed(head(b"GET", b"/" + b"z" * 17000, HOST), 431),
+        closed(head(b"GET", target, HOST, *[b"X%d: y" % field for field in range(64)]), 431),
+        closed(b"\x16\x03\x01\x02\x00\x01\x00\x01\xfc\x03\x03" + b"\0" * 40 + b"\n", 400),
+        closed(b"PRI * HTTP/2.0\r\n\r\nSM\r\n\r\n", 400),
+    ]
+
+
+def seeds(rng):
+    """Returns the seeds for some owner and some number of a note."""
+    who, number = rng.choice(OWNERS), b"%d" % rng.randint(1, 400)
+    return good_seeds(who, number), refused_seeds(who, number), bad_seeds(who)
+
+
+def chain(rng):
+    """Returns some requests one behind the other: mostly good ones, and mostly few."""
+    good, refused, bad = seeds(rng)
+    most = rng.choice([1, 1, 2, 3, 4, 8, 20])
+    found = [rng.choice(good if rng.random() < 0.6 else refused) for _ in range(rng.randint(1, most))]
+    if rng.random() < 0.25:
+        found.insert(rng.randint(0, len(found)), rng.choice(bad))
+    return found
+
+
+def wanted_of(chosen):
+    """Returns the answers that must come to whole requests: those up to the first that closes."""
+    found = []
+    for seed in chosen:
+        found.append(seed.wanted)
+        if seed.wanted[1]:
+            break
+    return found
+
+
+def place(rng, data):
+    """Returns a place of the bytes, often one of an end of a line."""
+    ends = [at for at in range(len(data)) if data[at] == 10] if rng.random() < 0.3 else []
+    return rng.choice(ends) if ends else rng.randint(0, len(data))
+
+
+def put(data, at, piece, past=0):
+    return data[:at] + piece + data[at + past:]
+
+
+def change_bytes(rng, data):
+    at = place(rng, data)
+    return rng.choice([
+        lambda: put(data, at, bytes([rng.randrange(256)]), 1),
+        lambda: put(data, at, bytes([data[at] ^ 1 << rng.randrange(8)]) if at < len(data) else b"", 1),
+        lambda: put(data, at, b"", rng.choice([1, 1, 2, 7, 40])),
+        lambda: put(data, at, rng.randbytes(rng.choice([1, 2, 5, 60]))),
+    ])()
+
+
+def put_piece(rng, data):
+    return put(data, place(rng, data), rng.choice(PIECES), rng.choice([0, 0, 1, 2]))
+
+
+def repeat_slice(rng, data):
+    at = place(rng, data)
+    length = rng.choice([1, 3, 20, 200])
+    times = rng.choice([1, 1, 2, 10])
+    return put(data, at, data[at:at + length] * times)
+
+
+def swap_lines(rng, data):
+    lines = data.split(b"\r\n")
+    one, other = rng.randrange(len(lines)), rng.randrange(len(lines))
+    lines[one], lines[other] = lines[other], lines[one]
+    return b"\r\n".join(lines)
+
+
+def double_line(rng, data):
+    lines = data.split(b"\r\n")
+    lines.insert(rng.randrange(len(lines)), rng.choice(lines))
+    return b"\r\n".join(lines)
+
+
+def put_field(rng, data):
+    lines = data.split(b"\r\n")
+    lines.insert(rng.randint(1, len(lines)), rng.choice(FIELDS))
+    return b"\r\n".join(lines)
+
+
+def drop_line(rng, data):
+    lines = data.split(b"\r\n")
+    del lines[rng.randrange(len(lines))]
+    return b"\r\n".join(lines)
+
+
+def change_number(rng, data):
+    at = place(rng, data)
+    while at < len(data) and not data[at:at + 1].isdigit():
+        at += 1
+    end = at
+    while end < len(data) and data[end:end + 1].isdigit():
+        end += 1
+    return put(data, at, rng.choice(NUMBERS), end - at)
+
+
+def bare_ends(rng, data):
+    return data.replace(b"\r\n", rng.choice([b"\n", b"\r", b"\r\r\n", b"\n\r"]), rng.choice([1, 2, -1]))
+
+
+def lengthen(rng, data):
+    return put(data, place(rng, data), bytes([rng.choice(b"aA0 %/:\0\xff")]) * rng.choice([255, 4096, 16384, 70000]))
+
+
+def cut_short(rng, data):
+    return data[:place(rng, data)]
+
+
+MUTATIONS = [change_bytes, change_bytes, put_piece, put_piece, repeat_slice, swap_lines, double_line, put_field, put_field, drop_line, change_number,
+             bare_ends, cut_short]
+
+
+def mutate(rng, data):
+    """Returns the bytes after some mutations, mostly few. Bytes are seldom made long, since that takes time."""
+    for _ in range(rng.choice([1, 1, 1, 2, 3, 6])):
+        data = (lengthen if rng.random() < 0.03 else rng.choice(MUTATIONS))(rng, data)
+    return data
+
+
+def cuts(rng, data):
+    """Returns places where the bytes are cut: none, some, or in even pieces."""
+    way = rng.random()
+    if way < 0.2 or len(data) < 2:
+        return []
+    if way < 0.85:
+        return sorted({rng.randrange(1, len(data)) for _ in range(rng.choice([1, 1, 2, 5, 20]))})
+    step = max(rng.choice([1, 2, 7, 64, 1000]), len(data) // rng.choice([10, 40, 40, 300]))
+    return list(range(step, len(data), step))
+
+
+def stream(seed, number):
+    """Returns the stream of a number: a fourth of them good, the others mutated."""
+    rng = random.Random(f"{seed}/{number}")
+    chosen = chain(rng)
+    data, wanted = b"".join(each.data for each in chosen), wanted_of(chosen)
+    end = rng.choices(["half", "open", "away"], [0.97, 0.002, 0.028])[0]
+    if rng.random() < 0.75:
+        data, wanted = mutate(rng, data), None
+    return Stream(data, cuts(rng, data), end, wanted)
