@@ -5,3 +5,4 @@ pub mod Steps
 pub mod Places
 pub mod Over
 pub mod Pure
+pub mod Fields

@@ -2,6 +2,7 @@
 #![tactic(auto)]
 
 mod control;
+mod fields;
 mod frame;
 mod law;
 mod operations;

@@ -1,5 +1,6 @@
 //! Steps of the machine.
 ghost use Rattle.std.specs.Prelude.{◌≡◌, ◌≤◌, List, Some};
+ghost use Rattle.ur_terms.specs.declared.term.Op.{Op};
 ghost use Rattle.ur_terms.specs.declared.term.Term.{Term};
 ghost use Rattle.ur_terms.specs.declared.term.Term.TheVariants as term;
 ghost use Rattle.ur_frames.specs.declared.frame.Frame.TheVariants as frame;
@@ -10,6 +11,7 @@ ghost use Rattle.ur_frames.specs.Steps.{Leads, Steps, Ends, IsDeed, Stands, IsSa
 ghost use Rattle.ur_frames.specs.Places.{AreLed, IfOn};
 
 use crate::control::{Control, Found, Next, Pause, Performed};
+use crate::fields::atom_at;
 use crate::frame::{Frame, Machine};
 use crate::operations::Operations;
 use crate::over::{is_over, weight};
@@ -309,6 +311,30 @@ impl Machine {
         }
     }
 
+    /// Enters an operation. An int, a bool or a text in a field of a variable is copied from where it stands, so that no
+    /// record is copied for one of its fields.
+    fn enter_make<'a, O: Operations>(
+        &mut self,
+        alloc: Global,
+        operations: &O,
+        functions: &'a List<Function>,
+        place: &'a Term,
+    ) -> Next<'a>
+        requires stands { standing functions.now self.old.frames ≡ Some place.now }
+        requires make { (op : Op) × (args : List Term) × (place.now ≡ term.Make op args) }
+        requires safe { IsSafe functions.now self.old (entering functions.now place.now) }
+        ensures leads { Leads functions.now self.old (entering functions.now place.now) (entering_cost functions.now place.now) self.new result }
+        ensures units { self.new.units ≤ self.old.units }
+    {
+        match atom_at(place, &self.values) {
+            Some(value) => match operations.copy(value) {
+                Ok(copy) => Next::On(Control::Give(copy)),
+                Err(_) => Next::Off(Pause::Memory),
+            },
+            None => self.next_argument(alloc, operations, functions, place, List::new(alloc)),
+        }
+    }
+
     /// Enters a term to which the frames lead.
     fn enter<'a, O: Operations>(
         &mut self,
@@ -334,13 +360,7 @@ impl Machine {
                 Err(_) => Next::Off(Pause::Memory),
             },
             Term::Bool(truth) => Next::On(Control::Give(Value::Bool(*truth))),
-            Term::Make(_, _) => self.next_argument(
-                alloc,
-                operations,
-                functions,
-                place,
-                List::new(alloc),
-            ),
+            Term::Make(_, _) => self.enter_make(alloc, operations, functions, place),
             Term::Call(_, _) => self.next_argument(
                 alloc,
                 operations,

@@ -11,15 +11,17 @@ pub nodes_start : (o : Option (List Node)) → append_option (Some []) o ≡ o
 nodes_start None = refl
 nodes_start (Some xs) = refl
 
-regrouped : (xs ys : List Node) (o : Option (List Node)) → append_option (Some xs) (append_option (Some ys) o) ≡ append_option (Some (xs ++ ys)) o
-regrouped xs ys None = refl
-regrouped xs ys (Some zs) = ap Some (sym (append_assoc xs ys zs))
+three : (a b c : Option (List Node)) → append_option a (append_option b c) ≡ append_option (append_option a b) c
+three None b c = refl
+three (Some xs) None c = refl
+three (Some xs) (Some ys) None = refl
+three (Some xs) (Some ys) (Some zs) = ap Some (sym (append_assoc xs ys zs))
 
 -- a part's nodes are put behind those that are there
 pub nodes_step : (nodes more : List Node) (part : Value) (rest : List Value) (all : Option (List Node)) → append_option (Some nodes) (all_nodes (part ∷ rest)) ≡ all → part ≡ v.Markup more
     → append_option (Some (nodes ++ more)) (all_nodes rest) ≡ all
 nodes_step nodes more part rest all h e =
-    sym (regrouped nodes more (all_nodes rest))
+    sym (three (Some nodes) (Some more) (all_nodes rest))
     ∙ ap (λ o. append_option (Some nodes) (append_option o (all_nodes rest))) (sym (ap as_nodes e ∙ nodes-Markup more)) ∙ h
 
 nothing_there : (xs : List Node) (o : Option (List Node)) → append_option (Some xs) (append_option None o) ≡ None
@@ -29,5 +31,15 @@ pub nodes_there : (nodes : List Node) (part : Value) (rest : List Value) (all : 
 nodes_there nodes part rest all h there e =
     there (sym h ∙ ap (λ o. append_option (Some nodes) (append_option o (all_nodes rest))) e ∙ nothing_there nodes (all_nodes rest))
 
-pub nodes_end : (nodes : List Node) (rest : List Value) (all : Option (List Node)) → append_option (Some nodes) (all_nodes rest) ≡ all → rest ≡ [] → all ≡ Some nodes
-nodes_end nodes rest all h e = sym h ∙ ap (λ l. append_option (Some nodes) (all_nodes l)) e ∙ ap Some (append-nil nodes)
+no_more : (o : Option (List Node)) → append_option o (Some []) ≡ append_option (Some []) o
+no_more None = refl
+no_more (Some xs) = ap Some (append-nil xs)
+
+last_nodes : (parts : List Value) (part : Value) → all_nodes (parts ++ part ∷ []) ≡ append_option (all_nodes parts) (as_nodes part)
+last_nodes [] part = no_more (as_nodes part)
+last_nodes (x ∷ parts) part = ap (append_option (as_nodes x)) (last_nodes parts part) ∙ three (as_nodes x) (all_nodes parts) (as_nodes part)
+
+-- the nodes of one part more
+pub nodes_more : (parts : List Value) (part : Value) (nodes more : List Node) → all_nodes parts ≡ Some nodes → part ≡ v.Markup more → all_nodes (parts ++ part ∷ []) ≡ Some (nodes ++ more)
+nodes_more parts part nodes more h e =
+    last_nodes parts part ∙ ap (λ o. append_option o (as_nodes part)) h ∙ ap (append_option (Some nodes)) (ap as_nodes e ∙ nodes-Markup more)

@@ -1,16 +1,16 @@
 //! Operations that make XML.
-ghost use Rattle.std.specs.Prelude.{◌≡◌, ◌≢◌, [], ◌∷◌, IfOk, MatchResult, Some, None, take, drop};
+ghost use Rattle.std.specs.Prelude.{◌≡◌, ◌≢◌, [], ◌∷◌, ◌++◌, IfOk, MatchResult, Some, None, take, drop};
 ghost use Rattle.ur_frames.specs.Plays.{nothing, Joins};
-ghost use Rattle.ur_terms.specs.Ops.{does, markup, with_unit};
+ghost use Rattle.ur_terms.specs.Ops.{does, markup, optional_text, with_unit};
 ghost use Rattle.ur_terms.specs.Values.{all_nodes};
 ghost use Rattle.ur_operations.specs.Comes.{Comes, CanDo};
 
 use crate::built::built;
-use crate::operands::{into_nodes, one, optional_text};
+use crate::operands::{into_nodes, into_text, one, optional_text};
 use crate::texts::shown;
 use std::alloc::Global;
-use ur_base::{List, Memory, Name, Text};
-use ur_frames::{Performed, Stack};
+use ur_base::{List, Memory, Name, Room, Text};
+use ur_frames::Performed;
 use ur_terms::Op;
 use ur_values::{Call, FieldKind, Node, Tag, Value};
 
@@ -28,9 +28,12 @@ fn of_nodes(nodes: Result<List<Node>, Memory>) -> Performed
 fn of_node(alloc: Global, node: Node) -> Performed
     ensures { Comes (markup (node ∷ [])) result }
 {
-    let mut nodes = List::new(alloc);
-    match nodes.push(node) {
-        Ok(()) => built(Value::Markup(nodes)),
+    match Room::new(alloc, 1) {
+        Ok(room) => {
+            let mut nodes = room;
+            nodes.push(node);
+            built(Value::Markup(nodes.list()))
+        }
         Err(_) => Performed::Memory,
     }
 }
@@ -48,12 +51,22 @@ fn all_nodes(alloc: Global, parts: List<Value>) -> Result<List<Node>, Memory>
     requires { all_nodes parts ≢ None }
     ensures { IfOk result (λ nodes. all_nodes parts ≡ Some nodes) }
 {
-    let mut rest = Stack::new(alloc);
-    rest.push_all(parts)?;
     let mut nodes = List::new(alloc);
-    while let Some(part) = rest.pop() {
-        nodes.append(into_nodes(part))?;
+    for part in parts.into_vec() {
+        nodes = joined(nodes, into_nodes(part))?;
     }
+    Ok(nodes)
+}
+
+/// The nodes of both, on the list that is there where one is empty.
+fn joined(nodes: List<Node>, more: List<Node>) -> Result<List<Node>, Memory>
+    ensures { IfOk result (λ all. all ≡ nodes ++ more) }
+{
+    if nodes.is_empty() {
+        return Ok(more);
+    }
+    let mut nodes = nodes;
+    nodes.append(more)?;
     Ok(nodes)
 }
 
@@ -126,15 +139,26 @@ pub(crate) fn submit(
     requires { CanDo (does nothing (Op.Submit route count unit) args) }
     ensures { Comes (does nothing (Op.Submit route count unit) args) result }
 {
-    match split(alloc, count, args) {
-        Ok((args, label)) => {
-            let label = optional_text(label);
-            match with_unit(alloc, unit, args) {
-                Ok(args) => of_node(alloc, Node::Submit(Call { route, args }, label)),
-                Err(_) => Performed::Memory,
-            }
-        }
+    let (args, label) = with_label(count, args);
+    match with_unit(alloc, unit, args) {
+        Ok(args) => of_node(alloc, Node::Submit(Call { route, args }, label)),
         Err(_) => Performed::Memory,
+    }
+}
+
+/// The first `count` values, and the text behind them where there is one.
+fn with_label(count: u32, values: List<Value>) -> (List<Value>, Option<Text>)
+    requires { optional_text (drop count values) ≢ None }
+    ensures front { result.0 ≡ take count values }
+    ensures label { optional_text (drop count values) ≡ Some result.1 }
+{
+    let mut values = values;
+    if values.len() <= count as usize {
+        return (values, None);
+    }
+    match values.pop() {
+        Some(text) => (values, Some(into_text(text))),
+        None => unreachable!(),
     }
 }
 
@@ -159,6 +183,9 @@ fn split(
     ensures front { IfOk result (λ parts. parts.0 ≡ take count values) }
     ensures back { IfOk result (λ parts. parts.1 ≡ drop count values) }
 {
+    if count == 0 {
+        return Ok((List::new(alloc), values));
+    }
     let mut values = values.into_vec();
     if values.len() <= count as usize {
         return Ok((List::from_vec(values), List::new(alloc)));

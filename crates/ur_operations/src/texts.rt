@@ -58,5 +58,5 @@ fn decimal(alloc: Global, number: i64) -> Result<Text, Memory>
     ensures { IfOk result (λ text. shown (Value.Int number) ≡ Some text) }
 {
     let text = format!(in alloc; "{number}")?;
-    List::from_slice(alloc, text.as_bytes())
+    Ok(List::from_vec(text.into_bytes()))
 }

@@ -5,4 +5,4 @@ use Rattle.ur_operations.proofs.Arguments.{comes_as}
 use Rattle.ur_operations.proofs.markup.of_node.Goals as goal
 
 pub returns-in-Ok : goal.returns-in-Ok
-returns-in-Ok c = comes_as c.built.result (λ s. ap (λ l. built (v.Markup l) s) (sym (c.in-Ok.ensures.ok ∙ ap (λ l. l ++ c.args.node ∷ []) c.new-nodes.ensures))) c.built.ensures
+returns-in-Ok c = comes_as c.built.result (λ s. ap (λ l. built (v.Markup l) s) (sym (c.list.ensures ∙ ap (λ r. r.items) c.push.ensures ∙ ap (λ l. l ++ c.args.node ∷ []) c.in-Ok.ensures.empty))) c.built.ensures

@@ -1,23 +1,17 @@
-use Rattle.std.proofs.Common.{sym, ap, ◌∙◌, subst}
+use Rattle.std.proofs.Common.{subst}
 use Rattle.ur_frames.specs.declared.frame.Frame.TheVariants as frame
 use Rattle.ur_frames.specs.Steps.{Descends}
-use Rattle.ur_frames.proofs.Entering.{enter_if, enter_case, enter_each, make_begins, call_begins, let_begins, begins_safe, begins_lead}
+use Rattle.ur_frames.proofs.Entering.{enter_if, enter_case, enter_each, call_begins, let_begins, begins_safe, begins_lead}
 use Rattle.ur_frames.proofs.frame.Machine.enter.Goals as goal
 
 pub next_argument-requires-clause-safe : goal.next_argument-requires-clause-safe
-next_argument-requires-clause-safe g c = begins_safe c.args.functions.now c.args.self.now c.args.place.now c.new.result (make_begins c.args.functions.now c.args.place.now _ _ c.in-Make.is) c.new.ensures c.requires.safe
-
-pub next_argument-requires-in-Call-clause-safe : goal.next_argument-requires-in-Call-clause-safe
-next_argument-requires-in-Call-clause-safe g c = begins_safe c.args.functions.now c.args.self.now c.args.place.now c.new-in-Call.result (call_begins c.args.functions.now c.args.place.now _ _ c.in-Call.is) c.new-in-Call.ensures c.requires.safe
+next_argument-requires-clause-safe g c = begins_safe c.args.functions.now c.args.self.now c.args.place.now c.new.result (call_begins c.args.functions.now c.args.place.now _ _ c.in-Call.is) c.new.ensures c.requires.safe
 
 pub next_argument-requires-in-Let-clause-safe : goal.next_argument-requires-in-Let-clause-safe
 next_argument-requires-in-Let-clause-safe g c = begins_safe c.args.functions.now c.args.self.now c.args.place.now c.new-in-Let.result (let_begins c.args.functions.now c.args.place.now _ _ c.in-Let.is) c.new-in-Let.ensures c.requires.safe
 
-pub returns-in-Make-clause-leads : goal.returns-in-Make-clause-leads
-returns-in-Make-clause-leads g c = begins_lead c.args.functions.now c.args.self.now c.next_argument.new.self c.args.place.now c.new.result c.next_argument.result (make_begins c.args.functions.now c.args.place.now _ _ c.in-Make.is) c.new.ensures c.next_argument.ensures.leads
-
 pub returns-in-Call-clause-leads : goal.returns-in-Call-clause-leads
-returns-in-Call-clause-leads g c = begins_lead c.args.functions.now c.args.self.now c.next_argument-in-Call.new.self c.args.place.now c.new-in-Call.result c.next_argument-in-Call.result (call_begins c.args.functions.now c.args.place.now _ _ c.in-Call.is) c.new-in-Call.ensures c.next_argument-in-Call.ensures.leads
+returns-in-Call-clause-leads g c = begins_lead c.args.functions.now c.args.self.now c.next_argument.new.self c.args.place.now c.new.result c.next_argument.result (call_begins c.args.functions.now c.args.place.now _ _ c.in-Call.is) c.new.ensures c.next_argument.ensures.leads
 
 pub returns-in-Let-clause-leads : goal.returns-in-Let-clause-leads
 returns-in-Let-clause-leads g c = begins_lead c.args.functions.now c.args.self.now c.next_argument-in-Let.new.self c.args.place.now c.new-in-Let.result c.next_argument-in-Let.result (let_begins c.args.functions.now c.args.place.now _ _ c.in-Let.is) c.new-in-Let.ensures c.next_argument-in-Let.ensures.leads
