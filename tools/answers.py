@@ -1,5 +1,5 @@
 """The answers on one connection: split, and compared with the table of answers."""
-import collections, re
+import collections, functools, re
 
 PHRASES = {
     200: "OK", 400: "Bad Request", 404: "Not Found", 405: "Method Not Allowed", 413: "Content Too Large",
@@ -39,48 +39,52 @@ def is_body(status, body):
     return bool(ERROR.fullmatch(body)) if status == 500 else body == plain_body(status)
 
 
-def check_head(head):
-    """Looks at all of a head but its length, and returns its status."""
-    status = int(head["status"])
+@functools.lru_cache(4096)
+def head_of(text):
+    """Looks at the bytes of a head, and returns its status, the length that it says, and whether it closes."""
+    head = HEAD.fullmatch(text)
+    if head is None:
+        raise Wrong(f"no head of an answer: {text[:300]!r}")
+    status, length = int(head["status"]), int(head["length"])
     if PHRASES.get(status, "").encode() != head["phrase"]:
         raise Wrong(f"no such status line: {status} {head['phrase']!r}")
     if (head["allow"] is not None) != (status == 405) or (head["cookies"] and status != 200):
-        raise Wrong(f"a field that {status} has not, or one is missing: {head[0]!r}")
+        raise Wrong(f"a field that {status} has not, or one is missing: {text!r}")
     if status in CLOSING and not head["close"]:
         raise Wrong(f"{status} keeps its connection")
-    return status
-
-
-def first(given):
-    """Returns the first answer, and the bytes behind it. It is a head alone where no page follows."""
-    head = HEAD.match(given)
-    if head is None:
-        raise Wrong(f"no head of an answer: {given[:300]!r}")
-    status, length, rest = check_head(head), int(head["length"]), given[head.end():]
-    alone = not rest.startswith(DOCTYPE[:1])
-    body = None if alone else rest[:length]
-    if alone and status not in (200, 500) and length != len(plain_body(status)):
+    if status not in (200, 500) and length != len(plain_body(status)):
         raise Wrong(f"a length that {status} has not: {length}")
-    if not alone and (len(body) != length or not is_body(status, body)):
-        raise Wrong(f"no body of {status} with {length} bytes: {rest[:300]!r}")
-    return Answer(status, bool(head["close"]), alone, body), rest if alone else rest[length:]
+    return status, length, bool(head["close"])
 
 
-def is_cut(given):
-    """Whether the bytes may be the front of an answer, and are no whole one."""
-    head = HEAD.match(given)
+def first(given, begin):
+    """Returns the first answer from a place on, and the place behind it. It is a head alone where no page follows."""
+    end = given.find(b"\r\n\r\n", begin) + 4
+    if end < 4:
+        raise Wrong(f"no head of an answer: {given[begin:begin + 300]!r}")
+    status, length, closes = head_of(given[begin:end])
+    if not given.startswith(DOCTYPE[:1], end):
+        return Answer(status, closes, True, None), end
+    body = given[end:end + length]
+    if len(body) != length or not is_body(status, body):
+        raise Wrong(f"no body of {status} with {length} bytes: {given[end:end + 300]!r}")
+    return Answer(status, closes, False, body), end + length
+
+
+def is_cut(given, begin):
+    """Whether the bytes from a place on may be the front of an answer, and are no whole one."""
+    head = HEAD.match(given, begin)
     if head is None:
-        return b"\r\n\r\n" not in given
-    rest = given[head.end():]
-    return rest.startswith(DOCTYPE[:1]) and len(rest) < int(head["length"])
+        return given.find(b"\r\n\r\n", begin) < 0
+    return given.startswith(DOCTYPE[:1], head.end()) and len(given) - head.end() < int(head["length"])
 
 
 def split(given, may_be_cut=False):
     """Returns the answers that the bytes are, in order. Behind a closing one nothing may come. The last may be cut where this is said."""
-    found = []
-    while given and not (may_be_cut and is_cut(given)):
+    found, at = [], 0
+    while at < len(given) and not (may_be_cut and is_cut(given, at)):
         if found and found[-1].closes:
-            raise Wrong(f"more behind a closing answer: {given[:300]!r}")
-        answer, given = first(given)
+            raise Wrong(f"more behind a closing answer: {given[at:at + 300]!r}")
+        answer, at = first(given, at)
         found.append(answer)
     return found

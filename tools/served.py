@@ -33,7 +33,7 @@ class Server:
     def __init__(self, command, port, folder=TOP):
         self.command, self.port, self.folder, self.process = [str(word) for word in command], port, folder, None
 
-    def start(self, seconds=60):
+    def start(self, seconds=300):
         self.process = subprocess.Popen(
             self.command, cwd=self.folder, stdin=subprocess.DEVNULL, stdout=subprocess.DEVNULL, stderr=subprocess.DEVNULL
         )
@@ -52,6 +52,11 @@ class Server:
         """Returns the greatest memory of the process so far, in KiB."""
         with open(f"/proc/{self.process.pid}/status", encoding="utf-8") as lines:
             return next((int(line.split()[1]) for line in lines if line.startswith("VmHWM")), 0)
+
+    def processor(self):
+        """Returns the seconds that the process has had of a processor, all its threads together."""
+        lines = [path.read_text() for path in pathlib.Path(f"/proc/{self.process.pid}/task").glob("*/schedstat")]
+        return sum(int(line.split()[0]) for line in lines) / 1e9
 
     def kill(self):
         if self.process is not None:

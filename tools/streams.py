@@ -1,5 +1,5 @@
 """Streams of requests to the notes: good ones with the answers that must come, and mutated ones, all from a number."""
-import collections, random
+import collections, random, re
 
 # The bytes of a connection, where they are cut, how it ends (`half`: the client stops sending and reads on; `open`: it goes on
 # waiting; `away`: it is gone at once), and the answers that must come, or None. An expected answer is a status, whether the
@@ -21,8 +21,10 @@ PIECES = [
     b"HTTP/1.1", b"HTTP/1.0", b"HTTP/2.0", b"http://a", b"https://b/", b"*", b"GET ", b"HEAD ", b"POST ", b"\xc3\xa9", b"\xff" * 3, b"&", b"=", b"+",
 ]
 NUMBERS = [b"0", b"1", b"-1", b"+1", b"00000", b"65536", b"1048576", b"1048577", b"4294967296", b"9223372036854775808", b"18446744073709551616", b""]
-OWNERS = [b"o%d" % number for number in range(60)]
-
+# What stands for an owner and for a note's number in the seeds. An owner has as many bytes, so that lengths stay right.
+OWNER, NUMBER = b"@@@", b"##"
+OWNERS = [b"o%02d" % number for number in range(60)]
+DIGITS = re.compile(rb"[0-9]+")
 
 def head(method, target, *fields, version=b"HTTP/1.1"):
     """Returns the bytes of a head."""
@@ -104,20 +106,31 @@ def bad_seeds(who):
     ]
 
 
-def seeds(rng):
-    """Returns the seeds for some owner and some number of a note."""
-    who, number = rng.choice(OWNERS), b"%d" % rng.randint(1, 400)
-    return good_seeds(who, number), refused_seeds(who, number), bad_seeds(who)
+GOOD, REFUSED, BAD = good_seeds(OWNER, NUMBER), refused_seeds(OWNER, NUMBER), bad_seeds(OWNER)
 
 
-def chain(rng):
+class Dice(random.Random):
+    """Random choices, each of one number of `random`, which is the quickest."""
+
+    def below(self, count):
+        return int(self.random() * count)
+
+    def one(self, items):
+        return items[int(self.random() * len(items))]
+
+
+def chain(dice):
     """Returns some requests one behind the other: mostly good ones, and mostly few."""
-    good, refused, bad = seeds(rng)
-    most = rng.choice([1, 1, 2, 3, 4, 8, 20])
-    found = [rng.choice(good if rng.random() < 0.6 else refused) for _ in range(rng.randint(1, most))]
-    if rng.random() < 0.25:
-        found.insert(rng.randint(0, len(found)), rng.choice(bad))
+    most = dice.one([1, 1, 2, 3, 4, 8, 20])
+    found = [dice.one(GOOD if dice.random() < 0.6 else REFUSED) for _ in range(1 + dice.below(most))]
+    if dice.random() < 0.25:
+        found.insert(dice.below(len(found) + 1), dice.one(BAD))
     return found
+
+
+def data_of(dice, chosen):
+    """Returns the bytes of seeds for some owner and some number of a note."""
+    return b"".join([seed.data for seed in chosen]).replace(OWNER, dice.one(OWNERS)).replace(NUMBER, b"%d" % (1 + dice.below(400)))
 
 
 def wanted_of(chosen):
@@ -130,112 +143,116 @@ def wanted_of(chosen):
     return found
 
 
-def place(rng, data):
+def place(dice, data):
     """Returns a place of the bytes, often one of an end of a line."""
-    ends = [at for at in range(len(data)) if data[at] == 10] if rng.random() < 0.3 else []
-    return rng.choice(ends) if ends else rng.randint(0, len(data))
+    at = dice.below(len(data) + 1)
+    return max(data.find(b"\n", at), at) if dice.random() < 0.3 else at
 
 
 def put(data, at, piece, past=0):
     return data[:at] + piece + data[at + past:]
 
 
-def change_bytes(rng, data):
-    at = place(rng, data)
-    return rng.choice([
-        lambda: put(data, at, bytes([rng.randrange(256)]), 1),
-        lambda: put(data, at, bytes([data[at] ^ 1 << rng.randrange(8)]) if at < len(data) else b"", 1),
-        lambda: put(data, at, b"", rng.choice([1, 1, 2, 7, 40])),
-        lambda: put(data, at, rng.randbytes(rng.choice([1, 2, 5, 60]))),
-    ])()
+def change_byte(dice, data):
+    return put(data, place(dice, data), bytes([dice.below(256)]), 1)
 
 
-def put_piece(rng, data):
-    return put(data, place(rng, data), rng.choice(PIECES), rng.choice([0, 0, 1, 2]))
+def turn_bit(dice, data):
+    at = place(dice, data)
+    return put(data, at, bytes([data[at] ^ 1 << dice.below(8)]) if at < len(data) else b"", 1)
 
 
-def repeat_slice(rng, data):
-    at = place(rng, data)
-    length = rng.choice([1, 3, 20, 200])
-    times = rng.choice([1, 1, 2, 10])
-    return put(data, at, data[at:at + length] * times)
+def drop_bytes(dice, data):
+    return put(data, place(dice, data), b"", dice.one([1, 1, 2, 7, 40]))
 
 
-def swap_lines(rng, data):
+def put_bytes(dice, data):
+    return put(data, place(dice, data), dice.randbytes(dice.one([1, 2, 5, 60])))
+
+
+def put_piece(dice, data):
+    return put(data, place(dice, data), dice.one(PIECES), dice.one([0, 0, 1, 2]))
+
+
+def repeat_slice(dice, data):
+    at = place(dice, data)
+    return put(data, at, data[at:at + dice.one([1, 3, 20, 200])] * dice.one([1, 1, 2, 10]))
+
+
+def swap_lines(dice, data):
     lines = data.split(b"\r\n")
-    one, other = rng.randrange(len(lines)), rng.randrange(len(lines))
+    one, other = dice.below(len(lines)), dice.below(len(lines))
     lines[one], lines[other] = lines[other], lines[one]
     return b"\r\n".join(lines)
 
 
-def double_line(rng, data):
+def double_line(dice, data):
     lines = data.split(b"\r\n")
-    lines.insert(rng.randrange(len(lines)), rng.choice(lines))
+    lines.insert(dice.below(len(lines)), dice.one(lines))
     return b"\r\n".join(lines)
 
 
-def put_field(rng, data):
+def put_field(dice, data):
     lines = data.split(b"\r\n")
-    lines.insert(rng.randint(1, len(lines)), rng.choice(FIELDS))
+    lines.insert(1 + dice.below(len(lines)), dice.one(FIELDS))
     return b"\r\n".join(lines)
 
 
-def drop_line(rng, data):
+def drop_line(dice, data):
     lines = data.split(b"\r\n")
-    del lines[rng.randrange(len(lines))]
+    del lines[dice.below(len(lines))]
     return b"\r\n".join(lines)
 
 
-def change_number(rng, data):
-    at = place(rng, data)
-    while at < len(data) and not data[at:at + 1].isdigit():
-        at += 1
-    end = at
-    while end < len(data) and data[end:end + 1].isdigit():
-        end += 1
-    return put(data, at, rng.choice(NUMBERS), end - at)
+def change_number(dice, data):
+    found = DIGITS.search(data, place(dice, data))
+    at, end = found.span() if found else (len(data), len(data))
+    return put(data, at, dice.one(NUMBERS), end - at)
 
 
-def bare_ends(rng, data):
-    return data.replace(b"\r\n", rng.choice([b"\n", b"\r", b"\r\r\n", b"\n\r"]), rng.choice([1, 2, -1]))
+def bare_ends(dice, data):
+    return data.replace(b"\r\n", dice.one([b"\n", b"\r", b"\r\r\n", b"\n\r"]), dice.one([1, 2, -1]))
 
 
-def lengthen(rng, data):
-    return put(data, place(rng, data), bytes([rng.choice(b"aA0 %/:\0\xff")]) * rng.choice([255, 4096, 16384, 70000]))
+def lengthen(dice, data):
+    return put(data, place(dice, data), dice.one([b"a", b"A", b"0", b" ", b"%", b"/", b":", b"\0", b"\xff"]) * dice.one([255, 4096, 16384, 70000]))
 
 
-def cut_short(rng, data):
-    return data[:place(rng, data)]
+def cut_short(dice, data):
+    return data[:place(dice, data)]
 
 
-MUTATIONS = [change_bytes, change_bytes, put_piece, put_piece, repeat_slice, swap_lines, double_line, put_field, put_field, drop_line, change_number,
-             bare_ends, cut_short]
+# Each as often as it stands here.
+MUTATIONS = [change_byte, turn_bit, drop_bytes, put_bytes] + 2 * [
+    put_piece, put_piece, repeat_slice, swap_lines, double_line, put_field, put_field, drop_line, change_number, bare_ends, cut_short,
+]
 
 
-def mutate(rng, data):
+def mutate(dice, data):
     """Returns the bytes after some mutations, mostly few. Bytes are seldom made long, since that takes time."""
-    for _ in range(rng.choice([1, 1, 1, 2, 3, 6])):
-        data = (lengthen if rng.random() < 0.03 else rng.choice(MUTATIONS))(rng, data)
+    for _ in range(dice.one([1, 1, 1, 2, 3, 6])):
+        data = (lengthen if dice.random() < 0.03 else dice.one(MUTATIONS))(dice, data)
     return data
 
 
-def cuts(rng, data):
+def cuts(dice, data):
     """Returns places where the bytes are cut: none, some, or in even pieces."""
-    way = rng.random()
+    way = dice.random()
     if way < 0.2 or len(data) < 2:
         return []
     if way < 0.85:
-        return sorted({rng.randrange(1, len(data)) for _ in range(rng.choice([1, 1, 2, 5, 20]))})
-    step = max(rng.choice([1, 2, 7, 64, 1000]), len(data) // rng.choice([10, 40, 40, 300]))
+        return sorted({1 + dice.below(len(data) - 1) for _ in range(dice.one([1, 1, 2, 5, 20]))})
+    step = max(dice.one([1, 2, 7, 64, 1000]), len(data) // dice.one([10, 40, 40, 300]))
     return list(range(step, len(data), step))
 
 
 def stream(seed, number):
     """Returns the stream of a number: a fourth of them good, the others mutated."""
-    rng = random.Random(f"{seed}/{number}")
-    chosen = chain(rng)
-    data, wanted = b"".join(each.data for each in chosen), wanted_of(chosen)
-    end = rng.choices(["half", "open", "away"], [0.97, 0.002, 0.028])[0]
-    if rng.random() < 0.75:
-        data, wanted = mutate(rng, data), None
-    return Stream(data, cuts(rng, data), end, wanted)
+    dice = Dice(seed << 32 | number)
+    chosen, way = chain(dice), dice.random()
+    data, wanted = data_of(dice, chosen), None
+    if dice.random() < 0.75:
+        data = mutate(dice, data)
+    else:
+        wanted = wanted_of(chosen)
+    return Stream(data, cuts(dice, data), "half" if way < 0.97 else "away" if way < 0.998 else "open", wanted)
