@@ -1,10 +1,11 @@
 -- Counts of sessions and of marks.
-use Rattle.std.proofs.Common.{◌≡◌, ◌⊎◌, inl, inr, ℕ, zero, suc, ◌+◌, ◌≤◌, Bool, true, false, if◌then◌else◌, List, [], ◌∷◌, ◌++◌, All, Any, refl, arith}
+use Rattle.std.proofs.Common.{◌≡◌, ◌⊎◌, inl, inr, ℕ, zero, suc, ◌+◌, ◌≤◌, min, Bool, true, false, if◌then◌else◌, List, [], ◌∷◌, ◌++◌, All, Any, refl, sym, ap, subst, ◌∙◌, arith}
 use Rattle.std.specs.Prelude.{sum_by}
 use Rattle.std.specs.List.{list_any, AllByRecursion}
 use Rattle.std.proofs.lemmas.List.Elements.{All-from_recursion}
 use Rattle.std.proofs.lemmas.List.Sums.{sum_by_push, sum_by-cons}
-use Rattle.ur_base.specs.Counts.{Rose, RoseBy}
+use Rattle.ur_base.specs.Counts.{greatest_count, next_count, raised_by, Rose, RoseBy}
+use Rattle.ur_io.specs.Calls.{count_after}
 use Rattle.ur_io.specs.declared.session.SessionEnd.{SessionEnd}
 use Rattle.ur_io.specs.declared.session.Mark.{Mark}
 use Rattle.ur_io.specs.declared.session.Mark.TheVariants as mark
@@ -24,13 +25,45 @@ rose_none old new le = grind arith
 pub rose_later : (n old mid new : ℕ) → RoseBy n old mid → mid ≤ new → RoseBy n old new
 rose_later n old mid new h le = grind arith
 
--- one fault more
-pub rose_more : (n old mid new : ℕ) → RoseBy n old mid → Rose mid new → RoseBy (n + 1) old new
-rose_more n old mid new h r = grind arith
-
 -- at least one fault in all
 pub rose_first : (n old new : ℕ) → RoseBy (suc n) old new → Rose old new
 rose_first n old new h = grind arith
+
+-- ---- counts of calls that failed
+
+-- so many, and then so many more
+pub count_sum : (n k old : ℕ) → count_after (n + k) old ≡ count_after k (count_after n old)
+count_sum n zero old =
+    let same : n + 0 ≡ n = omega arith in
+    ap (λ m. count_after m old) same
+count_sum n (suc k) old =
+    let more : n + suc k ≡ suc (n + k) = omega arith in
+    ap (λ m. count_after m old) more ∙ ap next_count (count_sum n k old)
+
+-- one more
+pub count_one : (n old : ℕ) → next_count (count_after n old) ≡ count_after (n + 1) old
+count_one n old =
+    let more : suc n ≡ n + 1 = omega arith in
+    ap (λ m. count_after m old) more
+
+one_step : (g old n c : ℕ) → min (old + n) g ≤ c → min (old + suc n) g ≤ min (c + 1) g
+one_step g old n c h = grind (arith, h)
+
+raised_counted : (n old : ℕ) → raised_by n old ≤ count_after n old
+raised_counted zero old = grind arith
+raised_counted (suc n) old = one_step greatest_count old n (count_after n old) (raised_counted n old)
+
+-- a count that rose so often rose by so many
+pub rose_counted : (n old new : ℕ) → new ≡ count_after n old → RoseBy n old new
+rose_counted n old new is = subst (λ m. raised_by n old ≤ m) (sym is) (raised_counted n old)
+
+two_steps : (g old n : ℕ) → min (min (old + n) g + 1) g ≡ min (old + suc n) g
+two_steps g old n = grind arith
+
+-- of a count of 64 bits it is the one that is raised by so many
+pub count_raised : (n old : ℕ) → old ≤ greatest_count → count_after n old ≡ raised_by n old
+count_raised zero old within = grind (arith, within)
+count_raised (suc n) old within = ap next_count (count_raised n old within) ∙ two_steps greatest_count old n
 
 -- ---- marks
 

@@ -41,10 +41,11 @@ is_wire why = 0
 abbrev pub wire_faults : List SessionEnd → ℕ
 wire_faults sessions = sum_by (λ s. is_wire s.why) sessions
 
--- one where `next` failed: while serving with `serve` status 6 comes of nothing else
-abbrev pub next_failed : Option Reading → ℕ → ℕ
-next_failed (Some (Serve p port s n)) status = if status == 6 then 1 else 0
-next_failed reading status = 0
+-- one where `next` failed: status 6 comes of nothing else, but with `replay` of a session that was cut off
+abbrev pub next_failed : Option Reading → List SessionEnd → ℕ → ℕ
+next_failed (Some (Serve p port s n)) sessions status = if status == 6 then 1 else 0
+next_failed (Some (Replay p s)) [] status = if status == 6 then 1 else 0
+next_failed reading sessions status = 0
 
 -- where status 6 comes: with `replay` the session was cut off, or `next` failed and there is none
 abbrev pub IsWireStatus : Option Reading → List SessionEnd → Type 0

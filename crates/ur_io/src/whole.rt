@@ -2,6 +2,7 @@
 ghost use Rattle.std.specs.Prelude.{◌≡◌, ◌++◌, ◌≤◌, List, ℕ, true, Some, OnOk, OnErr};
 ghost use Rattle.ur_base.specs.Counts.{CountsFaults};
 ghost use Rattle.ur_base.specs.Told.{WhereTold};
+ghost use Rattle.ur_io.specs.Calls.{CountsCall};
 ghost use Rattle.ur_io.specs.Traffic.{after_write};
 ghost use Rattle.ur_io.specs.Fronts.{IsFront};
 
@@ -14,7 +15,7 @@ pub fn give<W: Wire>(wire: &mut W, bytes: &[u8]) -> Result<(), Failed>
     ensures err { WhereTold (W.told wire.old) (λ t. OnErr result ((front : List ℕ) × IsFront front bytes.now
         × (W.told wire.new ≡ Some (after_write t front)))) }
     ensures stays { W.is_current wire.new ≡ true }
-    ensures counts { CountsFaults (W.faults wire.old) (W.faults wire.new) result }
+    ensures counts { CountsCall (W.faults wire.old) (W.faults wire.new) result }
 {
     let mut given = 0;
     while given < bytes.len() {

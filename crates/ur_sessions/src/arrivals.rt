@@ -1,9 +1,11 @@
 //! What comes on a connection.
 ghost use Rattle.std.specs.Prelude.{◌≡◌, ◌≢◌, ◌≤◌, ◌<◌, ◌+◌, ◌++◌, true, length, take, [], None, IfOk, OnErr, OnOk, ⊤};
-ghost use Rattle.ur_base.specs.Counts.{Rose, CountsFaults};
+ghost use Rattle.ur_base.specs.Counts.{Rose};
 ghost use Rattle.ur_base.specs.Told.{WhereTold, Tells};
+ghost use Rattle.ur_io.specs.Calls.{CountsCall};
 ghost use Rattle.ur_http.specs.Items.{Begins, more, greatest_request};
 ghost use Rattle.ur_sessions.specs.Arrivals.{HasTaken, ComesOn, IsFed, IsAnswerable, IsTextArrival};
+ghost use Rattle.ur_sessions.specs.Faults.{count_at_arrival};
 
 use ur_http::{HttpRequest, Item, Splitter};
 use ur_io::{Failed, Why, Wire};
@@ -31,6 +33,7 @@ pub(crate) fn next_arrival<W: Wire>(
     ensures answerable { IsAnswerable result splitter.new.refused }
     ensures text { IsTextArrival result }
     ensures wire { result ≡ Arrival.Ended Why.Wire → Rose (W.faults wire.old) (W.faults wire.new) }
+    ensures counted { W.faults wire.new ≡ count_at_arrival result (W.faults wire.old) }
     ensures buffer { length buffer.new ≡ length buffer.old }
     ensures current { W.is_current wire.new ≡ true }
     ensures later { W.faults wire.old ≤ W.faults wire.new }
@@ -75,7 +78,7 @@ fn fill<W: Wire>(wire: &mut W, splitter: &mut Splitter, buffer: &mut [u8]) -> Re
     ensures open { splitter.new.refused ≡ splitter.old.refused }
     ensures buffer { length buffer.new ≡ length buffer.old }
     ensures current { W.is_current wire.new ≡ true }
-    ensures counts { CountsFaults (W.faults wire.old) (W.faults wire.new) result }
+    ensures counts { CountsCall (W.faults wire.old) (W.faults wire.new) result }
 {
     let most = buffer.len().min(splitter.room());
     let count = wire.read(&mut buffer[..most])?;

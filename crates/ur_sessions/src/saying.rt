@@ -7,6 +7,7 @@ ghost use Rattle.ur_base.specs.Counts.{Rose};
 ghost use Rattle.ur_base.specs.Told.{WhereTold};
 ghost use Rattle.ur_sessions.specs.Arrivals.{IsAnswerable, IsTextArrival};
 ghost use Rattle.ur_sessions.specs.Saying.{mark_of, closes_of, bytes_of, MayKeep, Says, Writes, over_after, IsOver};
+ghost use Rattle.ur_sessions.specs.Faults.{count_at_answer};
 
 use crate::arrivals::Arrival;
 use crate::responder::{Reply, Responder};
@@ -136,6 +137,7 @@ pub(crate) fn say<W: Wire>(
     ensures writes { WhereTold (W.told wire.old) (λ t. Writes t (bytes_of said.now) result (W.told wire.new)) }
     ensures over { IsOver (length marks.new.items == most) (closes_of said.now) result }
     ensures wire { result ≡ Some Why.Wire → Rose (W.faults wire.old) (W.faults wire.new) }
+    ensures counted { W.faults wire.new ≡ count_at_answer result (W.faults wire.old) }
     ensures current { W.is_current wire.new ≡ true }
     ensures later { W.faults wire.old ≤ W.faults wire.new }
 {

@@ -1,8 +1,9 @@
 -- What a run says that obeyed its words and then reported: one lemma a clause.
 use Rattle.std.proofs.Common.{◌≡◌, ◌≢◌, ◌⊎◌, inl, inr, ℕ, ◌+◌, ◌≤◌, false, List, [], ◌∷◌, ◌++◌, length, Option, Some, None, Contains, Any, ap, subst, arith}
-use Rattle.ur_base.specs.Counts.{Rose, RoseBy}
+use Rattle.ur_base.specs.Counts.{Rose}
 use Rattle.ur_base.specs.Told.{WhereTold}
 use Rattle.ur_base.specs.declared.refusal.Refusal.{Refusal}
+use Rattle.ur_io.specs.Calls.{count_after}
 use Rattle.ur_io.specs.Files.{Files}
 use Rattle.ur_io.specs.declared.session.SessionEnd.{SessionEnd}
 use Rattle.ur_words.specs.declared.reading.Reading.{Reading}
@@ -78,8 +79,9 @@ module _ {told : Option Files} {tells : Type 0} {reading : Option Reading} {old 
   pub keeper_fault : status ≡ 7 → Rose old.keeper_faults new.keeper_faults × (sessions ≡ []) × (serving reading ≢ None)
   keeper_fault = of.keeper_fault told reading old new sessions status e obeyed.ends is
 
-  pub cut_off : RoseBy (wire_faults sessions + next_failed reading status) old.wire_faults new.wire_faults
-  cut_off = of.cut_off told reading old new sessions status e obeyed.ends is obeyed.wire_rose
+  pub wire_counted : (new.wire_faults ≡ count_after (wire_faults sessions + next_failed reading sessions status) old.wire_faults)
+      ⊎ ((status ≡ 5) × (new.wire_faults ≡ count_after (wire_faults sessions + 1) old.wire_faults))
+  wire_counted = of.wire_counted told reading old new sessions status e is obeyed.wire_counted
 
   pub replay_cut : ForServing reading (λ s. Any IsCutOff sessions → reading ≡ Some (Replay s.project s.settings) → Contains (5 ∷ 6 ∷ []) status)
   replay_cut = of.replay_cut told reading old new sessions status e obeyed.ends is

@@ -94,10 +94,21 @@ unless : (b : Bool) → (b ≡ true → ⊥) → one_if b ≡ 0
 unless true h = absurd (h refl)
 unless false h = refl
 
-pub none_failed : (r : Option Reading) (status : ℕ) → status ≢ 6 → next_failed r status ≡ 0
-none_failed None status other = refl
-none_failed (Some (Check p)) status other = refl
-none_failed (Some (Sites p)) status other = refl
-none_failed (Some (Replay p s)) status other = refl
-none_failed (Some (Serve p port s n)) status other = unless (status == 6) (λ e. other (grind (arith, nat_tests, e)))
-none_failed (Some (Load seed n)) status other = refl
+pub none_failed : (r : Option Reading) (sessions : List SessionEnd) (status : ℕ) → status ≢ 6 → next_failed r sessions status ≡ 0
+none_failed None sessions status other = refl
+none_failed (Some (Check p)) sessions status other = refl
+none_failed (Some (Sites p)) sessions status other = refl
+none_failed (Some (Replay p s)) [] status other = unless (status == 6) (λ e. other (grind (arith, nat_tests, e)))
+none_failed (Some (Replay p s)) (x ∷ sessions) status other = refl
+none_failed (Some (Serve p port s n)) sessions status other = unless (status == 6) (λ e. other (grind (arith, nat_tests, e)))
+none_failed (Some (Load seed n)) sessions status other = refl
+
+-- one at most
+pub one_failed : (r : Option Reading) (sessions : List SessionEnd) → (next_failed r sessions 6 ≡ 0) ⊎ (next_failed r sessions 6 ≡ 1)
+one_failed None sessions = inl refl
+one_failed (Some (Check p)) sessions = inl refl
+one_failed (Some (Sites p)) sessions = inl refl
+one_failed (Some (Replay p s)) [] = inr refl
+one_failed (Some (Replay p s)) (x ∷ sessions) = inl refl
+one_failed (Some (Serve p port s n)) sessions = inr refl
+one_failed (Some (Load seed n)) sessions = inl refl

@@ -1,19 +1,20 @@
 -- A run, connection by connection, at what is told.
 use Rattle.std.proofs.Common.{◌≡◌, ◌≢◌, ◌⊎◌, inl, inr, ℕ, ◌+◌, ◌-◌, ◌≤◌, ◌<◌, min, Bool, false, List, [], ◌∷◌, ◌++◌, length, All, Option, Some, None, refl, sym, ap, subst, ◌∙◌, arith, length-append}
 use Rattle.std.proofs.lemmas.List.Elements.{All-append, All-from_recursion}
-use Rattle.ur_base.specs.Counts.{RoseBy}
+use Rattle.ur_base.specs.Counts.{next_count, RoseBy}
 use Rattle.ur_base.specs.Told.{WhereTold, Tells}
 use Rattle.ur_io.specs.declared.session.SessionEnd.{SessionEnd}
+use Rattle.ur_io.specs.Calls.{count_after}
 use Rattle.ur_io.specs.Traffic.{Traffic}
 use Rattle.ur_keeper.specs.Tables.{Tables, Kept, Keeps, store_of}
 use Rattle.ur_serve.specs.Program.{Holding, Served, ServedAnswers, ServedReaches, fresh}
 use Rattle.ur_serve.specs.Responding.{served_by, holding_of}
 use Rattle.ur_serve.specs.Serving.{ServerState, IsReadyWithin}
 use Rattle.ur_headline.specs.Continuing.{RunSofar}
-use Rattle.ur_headline.specs.Counting.{wire_faults, marks_of, HasAllMarks}
+use Rattle.ur_headline.specs.Counting.{is_wire, wire_faults, marks_of, HasAllMarks}
 use Rattle.ur_headline.specs.Served.{HasServed}
 use Rattle.ur_headline.proofs.Running.{run_begins, run_goes_on}
-use Rattle.ur_headline.proofs.Counting.{sum_last, rose_more, rose_first}
+use Rattle.ur_headline.proofs.Counting.{sum_last, count_sum, count_one}
 use Rattle.ur_top.specs.declared.reporting.RunEnd.{RunEnd}
 use Rattle.ur_top.specs.declared.reporting.RunEnd.TheVariants as end
 use Rattle.ur_top.specs.declared.serving.Served as serving
@@ -151,28 +152,34 @@ none_coming None told' h = tt
 none_coming (Some t) told' h = h.0
 
 pub serves_on : (most : ℕ) (told told1 told2 : Option Traffic) (faults faults1 faults2 : ℕ) (current1 current2 : Bool) (e : RunEnd) (done : List SessionEnd) → length done < most
-    → Comes told (length done) told1 → RoseBy (wire_faults done) faults faults1 → (done ≢ [] → current1 ≡ false)
+    → Comes told (length done) told1 → faults1 ≡ count_after (wire_faults done) faults → (done ≢ [] → current1 ≡ false)
     → IsOver told1 told2 faults1 faults2 current1 current2 e → ServesOn most told faults faults2 current2 e done
-serves_on most told told1 told2 faults faults1 faults2 current1 current2 end.Done done few comes rose shut h =
-    (λ some. h.0, all_came most told told1 done (omega (arith, few)) comes (none_coming told1 told2 h.1))
-serves_on most told told1 told2 faults faults1 faults2 current1 current2 end.Wire done few comes rose shut h =
-    let more : RoseBy (wire_faults done + 1) faults faults2 = rose_more (wire_faults done) faults faults1 faults2 rose h.2 in
-    (few, h.0, rose_first (wire_faults done) faults faults2 (subst (λ n. RoseBy n faults faults2) (omega arith) more), more)
-serves_on most told told1 told2 faults faults1 faults2 current1 current2 end.Memory done few comes rose shut h = λ some. h.0 ∙ shut some
-serves_on most told told1 told2 faults faults1 faults2 current1 current2 end.Usage done few comes rose shut h = absurd h
-serves_on most told told1 told2 faults faults1 faults2 current1 current2 end.Shelf done few comes rose shut h = absurd h
-serves_on most told told1 told2 faults faults1 faults2 current1 current2 end.Sink done few comes rose shut h = absurd h
-serves_on most told told1 told2 faults faults1 faults2 current1 current2 end.Keeper done few comes rose shut h = absurd h
-serves_on most told told1 told2 faults faults1 faults2 current1 current2 (end.Checked routes) done few comes rose shut h = absurd h
-serves_on most told told1 told2 faults faults1 faults2 current1 current2 (end.Listed text) done few comes rose shut h = absurd h
-serves_on most told told1 told2 faults faults1 faults2 current1 current2 (end.Loaded report) done few comes rose shut h = absurd h
-serves_on most told told1 told2 faults faults1 faults2 current1 current2 (end.Refused file refusal) done few comes rose shut h = absurd h
-serves_on most told told1 told2 faults faults1 faults2 current1 current2 (end.Schema kept application) done few comes rose shut h = absurd h
+serves_on most told told1 told2 faults faults1 faults2 current1 current2 end.Done done few comes counted shut h =
+    (λ some. h.0, all_came most told told1 done (omega (arith, few)) comes (none_coming told1 told2 h.1), h.2 ∙ counted)
+serves_on most told told1 told2 faults faults1 faults2 current1 current2 end.Wire done few comes counted shut h =
+    (few, h.0, h.2 ∙ ap next_count counted ∙ count_one (wire_faults done) faults)
+serves_on most told told1 told2 faults faults1 faults2 current1 current2 end.Memory done few comes counted shut h = (λ some. h.0 ∙ shut some, h.2 ∙ counted)
+serves_on most told told1 told2 faults faults1 faults2 current1 current2 end.Usage done few comes counted shut h = absurd h
+serves_on most told told1 told2 faults faults1 faults2 current1 current2 end.Shelf done few comes counted shut h = absurd h
+serves_on most told told1 told2 faults faults1 faults2 current1 current2 end.Sink done few comes counted shut h = absurd h
+serves_on most told told1 told2 faults faults1 faults2 current1 current2 end.Keeper done few comes counted shut h = absurd h
+serves_on most told told1 told2 faults faults1 faults2 current1 current2 (end.Checked routes) done few comes counted shut h = absurd h
+serves_on most told told1 told2 faults faults1 faults2 current1 current2 (end.Listed text) done few comes counted shut h = absurd h
+serves_on most told told1 told2 faults faults1 faults2 current1 current2 (end.Loaded report) done few comes counted shut h = absurd h
+serves_on most told told1 told2 faults faults1 faults2 current1 current2 (end.Refused file refusal) done few comes counted shut h = absurd h
+serves_on most told told1 told2 faults faults1 faults2 current1 current2 (end.Schema kept application) done few comes counted shut h = absurd h
 
 -- each one that was allowed has its session
 pub serves_all : (most : ℕ) (told told' : Option Traffic) (faults faults' : ℕ) (current : Bool) (done : List SessionEnd) → most ≤ length done → length done ≤ most
-    → Comes told (length done) told' → (done ≢ [] → current ≡ false) → ServesOn most told faults faults' current end.Done done
-serves_all most told told' faults faults' current done le few comes shut = ((λ some. shut (λ e. omega (arith, some, le, ap length e))), all_allowed most told told' done le few comes)
+    → Comes told (length done) told' → (done ≢ [] → current ≡ false) → faults' ≡ count_after (wire_faults done) faults → ServesOn most told faults faults' current end.Done done
+serves_all most told told' faults faults' current done le few comes shut counted =
+    (λ some. shut (λ e. omega (arith, some, le, ap length e)), all_allowed most told told' done le few comes, counted)
+
+-- no request may be answered any more
+pub serves_out : (most left : ℕ) (told : Option Traffic) (faults faults' : ℕ) (current : Bool) (done : List SessionEnd) → left ≤ 0 → 16777216 ≤ left + marks_of done
+    → (done ≢ [] → current ≡ false) → faults' ≡ count_after (wire_faults done) faults → ServesOn most told faults faults' current end.Done done
+serves_out most left told faults faults' current done none marks shut counted =
+    (λ some. shut (λ e. omega (arith, none, marks, ap marks_of e)), all_marks most left told done none marks, counted)
 
 -- how serving ended, of what it came to
 pub ends_as : (most : ℕ) (told : Option Traffic) (faults faults' : ℕ) (current : Bool) (done : List SessionEnd) (e : RunEnd) (r : serving.Served) → r ≡ record { end = e; sessions = done }
@@ -188,6 +195,13 @@ rose_both n m old mid new h r = grind arith
 pub rose_last : (f : SessionEnd → ℕ) (count : List SessionEnd → ℕ) (done : List SessionEnd) (s : SessionEnd) (old mid new : ℕ) → count (done ++ s ∷ []) ≡ count done + f s
     → RoseBy (count done) old mid → RoseBy (f s) mid new → RoseBy (count (done ++ s ∷ [])) old new
 rose_last f count done s old mid new is h r = subst (λ n. RoseBy n old new) (sym is) (rose_both (count done) (f s) old mid new h r)
+
+-- the wire's count after one session more
+pub counted_last : (done : List SessionEnd) (s : SessionEnd) (old mid new : ℕ) → mid ≡ count_after (wire_faults done) old → new ≡ count_after (is_wire s.why) mid
+    → new ≡ count_after (wire_faults (done ++ s ∷ [])) old
+counted_last done s old mid new before last =
+    last ∙ ap (count_after (is_wire s.why)) before ∙ sym (count_sum (wire_faults done) (is_wire s.why) old)
+    ∙ ap (λ n. count_after n old) (sym (sum_last (λ (x : SessionEnd). is_wire x.why) done s))
 
 -- the run's requests that are left and its marks
 pub marks_on : (left : ℕ) (done : List SessionEnd) (s : SessionEnd) → 16777216 ≤ left + marks_of done → 16777216 ≤ (left - length s.marks) + marks_of (done ++ s ∷ [])

@@ -1,6 +1,7 @@
 -- What is so after a command that serves nothing.
-use Rattle.std.proofs.Common.{◌≡◌, ◌≢◌, inl, ℕ, ◌≤◌, false, List, [], ◌++◌, Option, Some, None, refl, sym, ap, subst, ◌∙◌, arith, append-nil}
+use Rattle.std.proofs.Common.{◌≡◌, ◌≢◌, inl, ℕ, ◌+◌, ◌≤◌, false, List, [], ◌++◌, Option, Some, None, refl, sym, ap, subst, ◌∙◌, arith, append-nil}
 use Rattle.ur_base.specs.Told.{WhereTold}
+use Rattle.ur_io.specs.Calls.{count_after}
 use Rattle.ur_io.specs.Files.{Files}
 use Rattle.ur_io.specs.declared.session.SessionEnd.{SessionEnd}
 use Rattle.ur_words.specs.declared.reading.Reading.{Reading}
@@ -14,7 +15,7 @@ use Rattle.ur_compile.specs.Explains.{Refuses}
 use Rattle.ur_headline.specs.Readings.{Serving, serving}
 use Rattle.ur_headline.specs.Serves.{IsAttached}
 use Rattle.ur_headline.proofs.Counting.{rose_none}
-use Rattle.ur_top.specs.Ends.{World, HasFiles, NoCalls, IsWant, IsSaid, Ends}
+use Rattle.ur_top.specs.Ends.{World, HasFiles, NoCalls, IsWant, IsSaid, Ends, failed_next}
 use Rattle.ur_top.specs.Obeyed.{ForApplication, Obeyed}
 use Rattle.ur_top.specs.Prints.{first_line}
 use Rattle.ur_top.specs.Sources.{OfSource, IsCoded}
@@ -117,17 +118,41 @@ same_tables schema Untold saved saved' same = tt
 same_tables schema Empty saved saved' same = inl same
 same_tables schema (Keeps k) saved saved' same = same
 
+-- where no call failed the count is as it was
+pub none_counted : (n old : ℕ) → n ≡ 0 → old ≡ count_after (0 + n) old
+none_counted n old none =
+    let same : 0 ≡ 0 + n = omega (arith, none) in
+    ap (λ k. count_after k old) same
+
+-- no connection was asked for where serving did not begin
+pub unstarted_next : (told : Option Files) (word : List ℕ) (faults faults' : ℕ) (old new : Held) (reading : Option Reading) (e : RunEnd) → Unstarted told word faults faults' old new e → failed_next reading [] e ≡ 0
+unstarted_next told word faults faults' old new reading end.Wire h = absurd h
+unstarted_next told word faults faults' old new reading e h = refl
+
+-- nor by a command that serves nothing
+pub check_next : (word : List ℕ) (e : RunEnd) → failed_next (Some (Check word)) [] e ≡ 0
+check_next word end.Wire = refl
+check_next word e = refl
+
+pub sites_next : (word : List ℕ) (e : RunEnd) → failed_next (Some (Sites word)) [] e ≡ 0
+sites_next word end.Wire = refl
+sites_next word e = refl
+
+pub load_next : (seed n : ℕ) (e : RunEnd) → failed_next (Some (Load seed n)) [] e ≡ 0
+load_next seed n end.Wire = refl
+load_next seed n e = refl
+
 nothing : Schema
 nothing = record { tables = []; sequences = [] }
 
 pub idle_obeys : (told : Option Files) (tells : Type 0) (reading : Option Reading) (old new : World) (e : RunEnd) → IsIdle old new
-    → (serving reading ≡ None → new ≡ record old { shelf_faults = new.shelf_faults }) → Ends told reading old new e [] → Obeyed told tells reading old new e []
-idle_obeys told tells reading old new e idle none ends = record {
+    → (serving reading ≡ None → new ≡ record old { shelf_faults = new.shelf_faults }) → failed_next reading [] e ≡ 0 → Ends told reading old new e [] → Obeyed told tells reading old new e []
+idle_obeys told tells reading old new e idle none unasked ends = record {
   serves = any_application told reading _ (λ s app some. absurd (some refl));
   links = any_application told reading _ (λ s app some. absurd (some refl));
   ends = ends;
   keeper_rose = rose_none old.keeper_faults new.keeper_faults idle.keeper_later;
-  wire_rose = rose_none old.wire_faults new.wire_faults (omega (arith, idle.wire_faults));
+  wire_counted = idle.wire_faults ∙ none_counted (failed_next reading [] e) old.wire_faults unasked;
   few = if_serving (serving reading) _ (λ s at. omega arith);
   few_requests = no_requests;
   no_serving = λ nothing. (refl, none nothing);

@@ -4,6 +4,7 @@ use Rattle.std.specs.Prelude.{IsSome}
 use Rattle.std.proofs.lemmas.List.Sums.{sum_by-cons}
 use Rattle.ur_base.specs.Counts.{Rose, RoseBy}
 use Rattle.ur_base.specs.Told.{WhereTold, Tells}
+use Rattle.ur_io.specs.Calls.{count_after}
 use Rattle.ur_io.specs.Files.{Files}
 use Rattle.ur_io.specs.Traffic.{Traffic}
 use Rattle.ur_io.specs.declared.session.SessionEnd.{SessionEnd}
@@ -26,8 +27,8 @@ use Rattle.ur_headline.specs.Laws.{IsCodeOfSource, ServedRunServes, LinksOfSourc
 use Rattle.ur_headline.specs.Readings.{Serving, serving, IfServing}
 use Rattle.ur_headline.specs.Served.{HasServed}
 use Rattle.ur_headline.specs.Serves.{AttachLeaves, IsAttached, Serves}
-use Rattle.ur_headline.proofs.Counting.{rose_none}
-use Rattle.ur_top.specs.Ends.{World, Ends, IsUnserved}
+use Rattle.ur_headline.proofs.Counting.{rose_none, rose_counted}
+use Rattle.ur_top.specs.Ends.{World, Ends, failed_next, IsUnserved}
 use Rattle.ur_top.specs.Obeyed.{ForApplication, Obeyed}
 use Rattle.ur_top.specs.Serving.{HasFewRequests, ServesOn, IsReplayed, IsUnsaid}
 use Rattle.ur_top.specs.Sources.{OfFiles, IsCoded}
@@ -36,7 +37,7 @@ use Rattle.ur_top.specs.declared.reporting.RunEnd.{RunEnd}
 use Rattle.ur_top.specs.declared.reporting.RunEnd.TheVariants as end
 use Rattle.ur_top.proofs.Cases.{none_cut, told_is, told_more}
 use Rattle.ur_top.proofs.Goings.{no_requests}
-use Rattle.ur_top.proofs.ObeyingIdle.{held}
+use Rattle.ur_top.proofs.ObeyingIdle.{held, none_counted}
 
 -- ---- the application of the files
 
@@ -106,7 +107,6 @@ pub record HasRun (tells : Type 0) (most : ℕ) (old : World) (mid : Held) (s : 
   pub served : sessions ≢ [] → WhereTold old.wire (λ t. WhereTold mid.saved (λ tables. Tells new.wire (λ u. Tells new.saved (λ after.
       HasServed s (store_of tables) old.reads t sessions (store_of after) new.reads u))))
   pub keeper_rose : RoseBy (keeper_faults sessions) mid.faults new.keeper_faults
-  pub wire_rose : RoseBy (wire_faults sessions) old.wire_faults new.wire_faults
   pub few : length sessions ≤ most
   pub idle : sessions ≡ [] → WhereTold old.wire (λ t. new.wire ≡ Some t) × (new.reads ≡ old.reads) × (new.saved ≡ mid.saved)
   pub kept : new.kept ≡ mid.kept
@@ -120,15 +120,14 @@ pub record HasRun (tells : Type 0) (most : ℕ) (old : World) (mid : Held) (s : 
 -- the same by the clauses of the loop over connections, whose count of scans begins at the one before
 pub has_run : (tells : Type 0) (most : ℕ) (old : World) (mid : Held) (reads : ℕ) (s : ServerState) (new : World) (sessions : List SessionEnd) → reads ≡ old.reads → (tells → IsSome mid.saved)
     → WhereTold old.wire (λ t. WhereTold mid.saved (λ tables. Tells new.wire (λ u. Tells new.saved (λ after. HasServed s (store_of tables) reads t sessions (store_of after) new.reads u))))
-    → RoseBy (keeper_faults sessions) mid.faults new.keeper_faults → RoseBy (wire_faults sessions) old.wire_faults new.wire_faults → length sessions ≤ most → HasFewRequests sessions
+    → RoseBy (keeper_faults sessions) mid.faults new.keeper_faults → length sessions ≤ most → HasFewRequests sessions
     → (sessions ≡ [] → WhereTold old.wire (λ t. new.wire ≡ Some t) × (new.reads ≡ reads) × (new.saved ≡ mid.saved)) → new.kept ≡ mid.kept → new.under_way ≡ false
     → (old.wire_faults ≤ new.wire_faults) × (mid.faults ≤ new.keeper_faults) → (old.shelf_faults ≤ new.shelf_faults) × (old.keeper_faults ≤ mid.faults) → HasRun tells most old mid s new sessions
-has_run tells most old mid reads s new sessions same tell served keeper wire few requests idle kept rest later earlier = record {
+has_run tells most old mid reads s new sessions same tell served keeper few requests idle kept rest later earlier = record {
   told = tell;
   served = λ some. subst (λ n. WhereTold old.wire (λ t. WhereTold mid.saved (λ tables. Tells new.wire (λ u. Tells new.saved (λ after.
       HasServed s (store_of tables) n t sessions (store_of after) new.reads u))))) same served;
   keeper_rose = keeper;
-  wire_rose = wire;
   few = few;
   requests = requests;
   idle = λ none. ((idle none).0, (idle none).1 ∙ same, (idle none).2);
@@ -151,9 +150,10 @@ module _ (one : OneApplication) (law : ServedRunServes) (links : LinksOfSourceLe
     attaches : (app : Typed) → IsCodeFor app s.code → AttachesTo app.schema old.kept Ready old.saved mid.saved
     attaches app code = subst (λ z. AttachesTo z old.kept Ready old.saved mid.saved) code.schema started.server.attached
 
-    pub run_obeys : (new : World) (e : RunEnd) (sessions : List SessionEnd) → (IsUnserved e → ⊥) → HasRun tells sv.most old mid s new sessions → Ends told reading old new e sessions
+    pub run_obeys : (new : World) (e : RunEnd) (sessions : List SessionEnd) → (IsUnserved e → ⊥) → HasRun tells sv.most old mid s new sessions
+        → new.wire_faults ≡ count_after (wire_faults sessions + failed_next reading sessions e) old.wire_faults → Ends told reading old new e sessions
         → Obeyed told tells reading old new e sessions
-    run_obeys new e sessions serves h ends = record {
+    run_obeys new e sessions serves h counted ends = record {
       serves = of_app _ (λ app code some tells.
           run_served law app s (source app code) started.patterns (subst (λ n. n ≤ 4294967295) (sym (ap (λ (z : ServerState). z.steps) started.server.is)) started.server.units)
           sv.settings (sym (ap (λ (z : ServerState). z.steps) started.server.is)) (sym (ap (λ (z : ServerState). z.cache.capacity) started.server.is))
@@ -162,7 +162,7 @@ module _ (one : OneApplication) (law : ServedRunServes) (links : LinksOfSourceLe
       links = of_app _ (λ app code some. links app s.code (source app code));
       ends = ends;
       keeper_rose = rose_before (keeper_faults sessions) old.keeper_faults mid.faults new.keeper_faults h.keeper_earlier h.keeper_rose;
-      wire_rose = h.wire_rose;
+      wire_counted = counted;
       few = subst (λ o. IfServing o (λ r. length sessions ≤ r.most)) (sym is) h.few;
       few_requests = h.requests;
       no_serving = λ none. absurd (let two = sym is ∙ none in cc);
@@ -179,13 +179,12 @@ module _ (one : OneApplication) (law : ServedRunServes) (links : LinksOfSourceLe
     }
 
     -- no connection was asked for
-    pub stopped_obeys : (new : World) (e : RunEnd) → (IsUnserved e → ⊥) → held new ≡ mid → new.wire ≡ old.wire → new.wire_faults ≡ old.wire_faults → new.reads ≡ old.reads → new.under_way ≡ under_way
+    pub stopped_obeys : (new : World) (e : RunEnd) → (IsUnserved e → ⊥) → held new ≡ mid → new.wire ≡ old.wire → new.wire_faults ≡ old.wire_faults → new.reads ≡ old.reads → new.under_way ≡ under_way → failed_next reading [] e ≡ 0
         → old.shelf_faults ≤ new.shelf_faults → old.keeper_faults ≤ new.keeper_faults → (tells → IsSome mid.saved) → Ends told reading old new e [] → Obeyed told tells reading old new e []
-    stopped_obeys new e serves same wire faults reads way shelf keeper tell ends = run_obeys new e [] serves (record {
+    stopped_obeys new e serves same wire faults reads way unasked shelf keeper tell ends = run_obeys new e [] serves (record {
       told = tell;
       served = λ some. absurd (some refl);
       keeper_rose = rose_none mid.faults new.keeper_faults (omega (arith, ap (λ (z : Held). z.faults) same));
-      wire_rose = rose_none old.wire_faults new.wire_faults (omega (arith, faults));
       few = omega arith;
       requests = no_requests;
       idle = λ x. (told_is old.wire _ (λ t at. wire ∙ at), reads, ap (λ (z : Held). z.saved) same);
@@ -195,7 +194,7 @@ module _ (one : OneApplication) (law : ServedRunServes) (links : LinksOfSourceLe
       wire_later = omega (arith, faults);
       keeper_earlier = omega (arith, keeper, ap (λ (z : Held). z.faults) same);
       keeper_later = omega (arith, ap (λ (z : Held). z.faults) same);
-    }) ends
+    }) (faults ∙ none_counted (failed_next reading [] e) old.wire_faults unasked) ends
 
 -- ---- how it ends
 
@@ -228,11 +227,15 @@ cut_counts (s ∷ sessions) (suc k, x, within, is, p) =
 rose_some : (n old new : ℕ) → 0 < n → RoseBy n old new → Rose old new
 rose_some n old new some h = grind (arith, some, h)
 
-rose_less : (n old new : ℕ) → RoseBy (n + 1) old new → RoseBy (n + 0) old new
-rose_less n old new h = grind (arith, h)
+-- the count rose so often, and so it rose
+rose_often : (n old new : ℕ) → 0 < n → new ≡ count_after n old → Rose old new
+rose_often n old new some is = rose_some n old new some (rose_counted n old new is)
 
-rose_same : (n old new : ℕ) → RoseBy n old new → RoseBy (n + 0) old new
-rose_same n old new h = grind (arith, h)
+-- none more
+none_more : (n old new : ℕ) → new ≡ count_after n old → new ≡ count_after (n + 0) old
+none_more n old new is =
+    let same : n ≡ n + 0 = omega arith in
+    is ∙ ap (λ k. count_after k old) same
 
 no_length : (sessions : List SessionEnd) → length sessions < 1 → sessions ≡ []
 no_length [] h = refl
@@ -258,35 +261,40 @@ module _ (told : Option Files) (word : List ℕ) (settings : Settings) (old new 
     serves = λ none. cc;
     none_current = on.1;
     same_schema = schema;
-    rose = on.2;
-    faults = rose_less (wire_faults sessions) old.wire_faults new.wire_faults on.3;
+    rose = rose_often (wire_faults sessions + 1) old.wire_faults new.wire_faults (omega arith) on.2;
     status = inl (no_length sessions on.0);
   }
-  whole_ends end.Memory on whole = record { none_current = on; same_schema = λ any. schema; whole = λ p s is. whole }
+  whole_ends end.Memory on whole = record { none_current = on.0; same_schema = λ any. schema; whole = λ p s is. whole }
   whole_ends e on whole = absurd on
 
   -- where there is a session, the wire was shut
   shut : (most : ℕ) (e : RunEnd) → 0 < most → On most e → sessions ≢ [] → new.current ≡ false
   shut most end.Done some on any = on.0 some
   shut most end.Wire some on any = on.1
-  shut most end.Memory some on any = on any
+  shut most end.Memory some on any = on.0 any
   shut most e some on any = absurd on
 
-  cut_ends : (e : RunEnd) → On 1 e → Any IsCutOff sessions → RoseBy (wire_faults sessions) old.wire_faults new.wire_faults → Ends told (Some (Replay word settings)) old new end.Wire sessions
-  cut_ends e on cut rose = record {
+  -- the count rose where one was cut off
+  cut_rose : (most : ℕ) (e : RunEnd) → On most e → Any IsCutOff sessions → Rose old.wire_faults new.wire_faults
+  cut_rose most end.Done on cut = rose_often (wire_faults sessions) old.wire_faults new.wire_faults (cut_counts sessions cut) on.2
+  cut_rose most end.Wire on cut = rose_often (wire_faults sessions + 1) old.wire_faults new.wire_faults (omega arith) on.2
+  cut_rose most end.Memory on cut = rose_often (wire_faults sessions) old.wire_faults new.wire_faults (cut_counts sessions cut) on.1
+  cut_rose most e on cut = absurd on
+
+  cut_ends : (e : RunEnd) → On 1 e → Any IsCutOff sessions → Ends told (Some (Replay word settings)) old new end.Wire sessions
+  cut_ends e on cut = record {
     compiled = compiled;
     serves = λ none. cc;
     none_current = shut 1 e (omega arith) on (λ none. none_cut sessions none cut);
     same_schema = schema;
-    rose = rose_some (wire_faults sessions) old.wire_faults new.wire_faults (cut_counts sessions cut) rose;
-    faults = rose_same (wire_faults sessions) old.wire_faults new.wire_faults rose;
+    rose = cut_rose 1 e on cut;
     status = inr cut;
   }
 
-  pub replay_ends : (e e' : RunEnd) (sessions' : List SessionEnd) → On 1 e → RoseBy (wire_faults sessions) old.wire_faults new.wire_faults → IsReplayed e sessions e' sessions'
+  pub replay_ends : (e e' : RunEnd) (sessions' : List SessionEnd) → On 1 e → IsReplayed e sessions e' sessions'
       → Ends told (Some (Replay word settings)) old new e' sessions
-  replay_ends e e' sessions' on rose (same, inl (is, cut)) = subst (λ z. Ends told (Some (Replay word settings)) old new z sessions) (sym is) (cut_ends e on cut rose)
-  replay_ends e e' sessions' on rose (same, inr (is, whole)) = subst (λ z. Ends told (Some (Replay word settings)) old new z sessions) (sym is) (whole_ends e on whole)
+  replay_ends e e' sessions' on (same, inl (is, cut)) = subst (λ z. Ends told (Some (Replay word settings)) old new z sessions) (sym is) (cut_ends e on cut)
+  replay_ends e e' sessions' on (same, inr (is, whole)) = subst (λ z. Ends told (Some (Replay word settings)) old new z sessions) (sym is) (whole_ends e on whole)
 
   -- ---- of `serve`
 
@@ -304,12 +312,42 @@ module _ (told : Option Files) (word : List ℕ) (settings : Settings) (old new 
     serves = λ none. cc;
     none_current = on.1;
     same_schema = schema;
-    rose = on.2;
-    faults = on.3;
+    rose = rose_often (wire_faults sessions + 1) old.wire_faults new.wire_faults (omega arith) on.2;
     status = tt;
   }
-  serve_ends port most end.Memory some on = record { none_current = on; same_schema = λ any. schema; whole = λ p s is cut. cc }
+  serve_ends port most end.Memory some on = record { none_current = on.0; same_schema = λ any. schema; whole = λ p s is cut. cc }
   serve_ends port most e some on = absurd on
+
+-- ---- the wire's count
+
+module _ (word : List ℕ) (settings : Settings) (told : Option Traffic) (faults faults' : ℕ) (current : Bool) where
+  pub serve_counts : (port n most : ℕ) (e : RunEnd) (sessions : List SessionEnd) → ServesOn most told faults faults' current e sessions
+      → faults' ≡ count_after (wire_faults sessions + failed_next (Some (Serve word port settings n)) sessions e) faults
+  serve_counts port n most end.Done sessions on = none_more (wire_faults sessions) faults faults' on.2
+  serve_counts port n most end.Wire sessions on = on.2
+  serve_counts port n most end.Memory sessions on = none_more (wire_faults sessions) faults faults' on.1
+  serve_counts port n most e sessions on = absurd on
+
+  abbrev Counts : RunEnd → List SessionEnd → Type 0
+  Counts e sessions = faults' ≡ count_after (wire_faults sessions + failed_next (Some (Replay word settings)) sessions e) faults
+
+  whole_counts : (e : RunEnd) (sessions : List SessionEnd) → ServesOn 1 told faults faults' current e sessions → Counts e sessions
+  whole_counts end.Done sessions on = none_more (wire_faults sessions) faults faults' on.2
+  whole_counts end.Wire [] on = on.2
+  whole_counts end.Wire (s ∷ sessions) on = absurd (let none = no_length (s ∷ sessions) on.0 in cc)
+  whole_counts end.Memory sessions on = none_more (wire_faults sessions) faults faults' on.1
+  whole_counts e sessions on = absurd on
+
+  cut_off_counts : (e : RunEnd) (sessions : List SessionEnd) → ServesOn 1 told faults faults' current e sessions → Any IsCutOff sessions → Counts end.Wire sessions
+  cut_off_counts e [] on cut = absurd (none_cut [] refl cut)
+  cut_off_counts end.Done (s ∷ sessions) on cut = none_more (wire_faults (s ∷ sessions)) faults faults' on.2
+  cut_off_counts end.Wire (s ∷ sessions) on cut = absurd (let none = no_length (s ∷ sessions) on.0 in cc)
+  cut_off_counts end.Memory (s ∷ sessions) on cut = none_more (wire_faults (s ∷ sessions)) faults faults' on.1
+  cut_off_counts e (s ∷ sessions) on cut = absurd on
+
+  pub replay_counts : (e e' : RunEnd) (sessions sessions' : List SessionEnd) → ServesOn 1 told faults faults' current e sessions → IsReplayed e sessions e' sessions' → Counts e' sessions
+  replay_counts e e' sessions sessions' on (same, inl (is, cut)) = subst (λ z. Counts z sessions) (sym is) (cut_off_counts e sessions on cut)
+  replay_counts e e' sessions sessions' on (same, inr (is, whole)) = subst (λ z. Counts z sessions) (sym is) (whole_counts e sessions on)
 
 -- ---- serving began
 
@@ -330,6 +368,11 @@ line_serves port told told' faults faults' end.Sink h x = x
 line_serves port told told' faults faults' end.Memory h x = x
 line_serves port told told' faults faults' e h x = absurd h
 
+pub line_next : (port : ℕ) (told told' : Option (List ℕ)) (faults faults' : ℕ) (reading : Option Reading) (e : RunEnd) → IsUnsaid port told told' faults faults' e → failed_next reading [] e ≡ 0
+line_next port told told' faults faults' reading end.Sink h = refl
+line_next port told told' faults faults' reading end.Memory h = refl
+line_next port told told' faults faults' reading e h = absurd h
+
 -- ---- the two commands
 
 module _ (one : OneApplication) (law : ServedRunServes) (links : LinksOfSourceLead) (told : Option Files) (tells : Type 0) (word : List ℕ) (settings : Settings)
@@ -340,13 +383,15 @@ module _ (one : OneApplication) (law : ServedRunServes) (links : LinksOfSourceLe
       subst (λ z. Obeyed told tells (Some (Replay word settings)) old new e' z) (sym replayed.0)
       (run_obeys one law links told tells (Some (Replay word settings)) (record { project = word; settings = settings; most = 1 }) refl old mid under_way s started new e' sessions
       (replay_serves 1 old.wire old.wire_faults new.wire_faults new.current e e' sessions sessions' on replayed) h
+      (replay_counts word settings old.wire old.wire_faults new.wire_faults new.current e e' sessions sessions' on replayed)
       (replay_ends told word settings old new sessions (is_compiled told word settings (held old) mid under_way s started) (keeps_its told word settings (held old) mid under_way s started)
-      e e' sessions' on h.wire_rose replayed))
+      e e' sessions' on replayed))
 
   pub serve_obeys : (port most : ℕ) (e : RunEnd) → 0 < most → HasRun tells most old mid s new sessions
       → ServesOn most old.wire old.wire_faults new.wire_faults new.current e sessions → Obeyed told tells (Some (Serve word port settings most)) old new e sessions
   serve_obeys port most e some h on =
       run_obeys one law links told tells (Some (Serve word port settings most)) (record { project = word; settings = settings; most = most }) refl old mid under_way s started new e sessions
       (on_serves most old.wire old.wire_faults new.wire_faults new.current e sessions on) h
+      (serve_counts word settings old.wire old.wire_faults new.wire_faults new.current port most most e sessions on)
       (serve_ends told word settings old new sessions (is_compiled told word settings (held old) mid under_way s started) (keeps_its told word settings (held old) mid under_way s started)
       port most e some on)

@@ -8,7 +8,9 @@ use Rattle.ur_io.specs.declared.session.Mark.{Mark}
 use Rattle.ur_io.specs.declared.session.Mark.TheVariants as mark
 use Rattle.ur_io.specs.declared.session.Why.{Why}
 use Rattle.ur_io.specs.declared.session.Why.TheVariants as why
+use Rattle.ur_io.specs.Calls.{count_after}
 use Rattle.ur_io.specs.Traffic.{Traffic, Opens, opened}
+use Rattle.ur_sessions.specs.Faults.{count_at_end}
 use Rattle.ur_sessions.specs.Programs.{IsSessionOn}
 use Rattle.ur_serve.specs.Program.{Holding, Served, ServedAnswers, ServedReaches}
 use Rattle.ur_headline.specs.Counting.{is_keeper, keeper_fault, is_wire}
@@ -63,12 +65,12 @@ one_if false old new h le = rose_none old new le
 pub keeper_rose : (s : SessionEnd) (old new : ℕ) → (Any (λ m. m ≡ mark.Keeper) s.marks → Rose old new) → old ≤ new → RoseBy (keeper_fault s) old new
 keeper_rose s old new h le = one_if (list_any is_keeper s.marks) old new (λ e. h (keeper_any s.marks e)) le
 
-pub wire_rose : (w : Why) (old new : ℕ) → (w ≡ why.Wire → Rose old new) → old ≤ new → RoseBy (is_wire w) old new
-wire_rose why.Wire old new h le = h refl
-wire_rose why.End old new h le = rose_none old new le
-wire_rose why.Truncated old new h le = rose_none old new le
-wire_rose why.Closed old new h le = rose_none old new le
-wire_rose why.Full old new h le = rose_none old new le
+pub wire_counted : (w : Why) (old : ℕ) → count_at_end w old ≡ count_after (is_wire w) old
+wire_counted why.Wire old = refl
+wire_counted why.End old = refl
+wire_counted why.Truncated old = refl
+wire_counted why.Closed old = refl
+wire_counted why.Full old = refl
 
 pub rose_before : (n old mid new : ℕ) → old ≤ mid → RoseBy n mid new → RoseBy n old new
 rose_before n old mid new le h = grind arith

@@ -3,6 +3,7 @@ use Rattle.std.proofs.Common.{◌≡◌, ◌≢◌, ◌⊎◌, inl, inr, ℕ, �
 use Rattle.ur_base.specs.Counts.{Rose, RoseBy}
 use Rattle.ur_base.specs.Told.{WhereTold}
 use Rattle.ur_base.specs.declared.refusal.Refusal.{Refusal}
+use Rattle.ur_io.specs.Calls.{count_after}
 use Rattle.ur_io.specs.Files.{Files}
 use Rattle.ur_io.specs.Traffic.{Traffic}
 use Rattle.ur_io.specs.declared.session.SessionEnd.{SessionEnd}
@@ -19,10 +20,10 @@ use Rattle.ur_headline.specs.Counting.{wire_faults, next_failed, keeper_faults, 
 use Rattle.ur_headline.specs.Readings.{Serving, serving, IfServing, ForServing}
 use Rattle.ur_headline.proofs.Counting.{all_done_or_want}
 use Rattle.ur_top.specs.Sources.{ForReport, ForSource, OfSource, OfApplication, Compiles, IsCoded, IsCompiled, HasNoCode}
-use Rattle.ur_top.specs.Ends.{World, NoCalls, IsServed, IsWant, Ends, IsStatus, IsUnserved, HasFiles}
+use Rattle.ur_top.specs.Ends.{World, NoCalls, IsServed, IsWant, Ends, failed_next, IsStatus, IsUnserved, HasFiles}
 use Rattle.ur_top.specs.declared.reporting.RunEnd.{RunEnd}
 use Rattle.ur_top.specs.declared.reporting.RunEnd.TheVariants as end
-use Rattle.ur_top.proofs.Cases.{split, nothing_in, none_cut, told_is, told_more, if_serving, of_served, at_served, of_source, from_source, no_source, not_served, clashes, none_failed}
+use Rattle.ur_top.proofs.Cases.{split, nothing_in, none_cut, told_is, told_more, if_serving, of_served, at_served, of_source, from_source, no_source, not_served, clashes, none_failed, one_failed}
 
 -- a command that is reported of is not served
 check_serves : (r : Option Reading) (p : List ℕ) → r ≡ Some (Check p) → serving r ≡ None
@@ -179,17 +180,24 @@ module _ (told : Option Files) (reading : Option Reading) (old new : World) (ses
   keeper_fault end.Keeper (compiled, serves, rose, calls) s is = (rose, calls.none, serves)
   keeper_fault e ends s is = absurd (grind (arith, s, is))
 
-  no_next : status ≢ 6 → RoseBy (wire_faults sessions) old.wire_faults new.wire_faults → RoseBy (wire_faults sessions + next_failed reading status) old.wire_faults new.wire_faults
-  no_next other by =
-      let none : next_failed reading status ≡ 0 = none_failed reading status other in
-      let same : wire_faults sessions ≡ wire_faults sessions + next_failed reading status = omega (arith, none) in
-      subst (λ n. RoseBy n old.wire_faults new.wire_faults) same by
+  -- so many calls of the wire failed beside the sessions that were cut off
+  abbrev CountsTo : ℕ → Type 0
+  CountsTo n = new.wire_faults ≡ count_after (wire_faults sessions + n) old.wire_faults
 
-  pub cut_off : (e : RunEnd) → EndsSo e → IsStatus e status → RoseBy (wire_faults sessions) old.wire_faults new.wire_faults
-      → RoseBy (wire_faults sessions + next_failed reading status) old.wire_faults new.wire_faults
-  cut_off end.Wire fault (inl s) by = subst (λ n. RoseBy (wire_faults sessions + next_failed reading n) old.wire_faults new.wire_faults) (sym s) fault.faults
-  cut_off end.Wire fault (inr s) by = no_next (λ is. absurd (omega (arith, s, is))) by
-  cut_off e ends s by = no_next (λ is. absurd (grind (arith, s, is))) by
+  abbrev Counted : Type 0
+  Counted = CountsTo (next_failed reading sessions status) ⊎ ((status ≡ 5) × CountsTo 1)
+
+  no_next : status ≢ 6 → CountsTo 0 → Counted
+  no_next other by = inl (subst CountsTo (sym (none_failed reading sessions status other)) by)
+
+  pub wire_counted : (e : RunEnd) → IsStatus e status → CountsTo (failed_next reading sessions e) → Counted
+  wire_counted end.Wire (inl s) by = inl (subst (λ n. CountsTo (next_failed reading sessions n)) (sym s) by)
+  wire_counted end.Wire (inr s) by = either (one_failed reading sessions)
+    where
+      either : (next_failed reading sessions 6 ≡ 0) ⊎ (next_failed reading sessions 6 ≡ 1) → Counted
+      either (inl none) = no_next (λ is. absurd (omega (arith, s, is))) (subst CountsTo none by)
+      either (inr one) = inr (s, subst CountsTo one by)
+  wire_counted e s by = no_next (λ is. absurd (grind (arith, s, is))) by
 
   pub replay_cut : (e : RunEnd) → EndsSo e → IsStatus e status → ForServing reading (λ s. Any IsCutOff sessions → reading ≡ Some (Replay s.project s.settings) → Contains (5 ∷ 6 ∷ []) status)
   replay_cut e ends s = if_serving (serving reading) _ (λ to at any is. of_end e ends s (to.project) (to.settings) any is)

@@ -1,6 +1,6 @@
 -- How a run ends, and what is so then.
-use Rattle.std.specs.Prelude.{◌≡◌, ◌≢◌, ◌⊎◌, ℕ, ◌+◌, ◌<◌, min, Bool, false, List, [], length, Option, Some, None, Result, Ok, Err, Any, ⊤}
-use Rattle.ur_base.specs.Counts.{Rose, RoseBy}
+use Rattle.std.specs.Prelude.{◌≡◌, ◌≢◌, ◌⊎◌, ℕ, ◌<◌, min, Bool, false, List, [], length, Option, Some, None, Result, Ok, Err, Any, ⊤}
+use Rattle.ur_base.specs.Counts.{Rose}
 use Rattle.ur_base.specs.Told.{WhereTold}
 use Rattle.ur_base.specs.declared.refusal.Memory.{Memory}
 use Rattle.ur_io.specs.Files.{Files}
@@ -21,7 +21,7 @@ use Rattle.ur_sql.specs.declared.query.Query.{Query}
 use Rattle.ur_sql.specs.declared.change.Change.{Change}
 use Rattle.ur_reports.specs.Texts as texts
 use Rattle.ur_compile.specs.Explains.{Refuses}
-use Rattle.ur_headline.specs.Counting.{wire_faults, next_failed, IsCutOff, IsWireStatus, HasAllMarks}
+use Rattle.ur_headline.specs.Counting.{next_failed, IsCutOff, IsWireStatus, HasAllMarks}
 use Rattle.ur_headline.specs.Readings.{serving, ForServing}
 use Rattle.ur_top.specs.Loads.{IsLoadReport}
 use Rattle.ur_top.specs.Prints.{first_line}
@@ -74,7 +74,6 @@ pub record IsWireFault (told : Option Files) (reading : Option Reading) (old new
   pub none_current : new.current ≡ false
   pub same_schema : AttachedTo told reading old
   pub rose : Rose old.wire_faults new.wire_faults
-  pub faults : RoseBy (wire_faults sessions + next_failed reading 6) old.wire_faults new.wire_faults
   pub status : IsWireStatus reading sessions
 
 -- memory was wanting, before serving or while serving
@@ -120,6 +119,11 @@ Ends told reading old new end.Sink sessions = ((p : List ℕ) × (port : ℕ) ×
 Ends told reading old new end.Wire sessions = IsWireFault told reading old new sessions
 Ends told reading old new end.Memory sessions = IsWant told reading old new sessions
 Ends told reading old new end.Done sessions = IsServed told reading old new sessions
+
+-- one where `next` failed
+abbrev pub failed_next : Option Reading → List SessionEnd → RunEnd → ℕ
+failed_next reading sessions end.Wire = next_failed reading sessions 6
+failed_next reading sessions e = 0
 
 -- serving did not begin, and nothing was written
 abbrev pub IsUnserved : RunEnd → Type 0

@@ -1,7 +1,8 @@
 -- What is so after a command was obeyed, all but its report.
-use Rattle.std.specs.Prelude.{◌≡◌, ◌≢◌, ◌⊎◌, ◌≤◌, false, List, [], length, Option, None}
+use Rattle.std.specs.Prelude.{◌≡◌, ◌≢◌, ◌⊎◌, ◌+◌, ◌≤◌, false, List, [], length, Option, None}
 use Rattle.ur_base.specs.Counts.{RoseBy}
 use Rattle.ur_base.specs.Told.{WhereTold, Tells}
+use Rattle.ur_io.specs.Calls.{count_after}
 use Rattle.ur_io.specs.Files.{Files}
 use Rattle.ur_io.specs.declared.session.SessionEnd.{SessionEnd}
 use Rattle.ur_words.specs.declared.reading.Reading.{Reading}
@@ -13,7 +14,7 @@ use Rattle.ur_headline.specs.Counting.{keeper_faults, wire_faults}
 use Rattle.ur_headline.specs.Readings.{Serving, serving, ForServing}
 use Rattle.ur_headline.specs.Serves.{Serves, IsAttached}
 use Rattle.ur_headline.specs.Source.{LinksLead}
-use Rattle.ur_top.specs.Ends.{World, Ends, IsUnserved}
+use Rattle.ur_top.specs.Ends.{World, Ends, failed_next, IsUnserved}
 use Rattle.ur_top.specs.Serving.{HasFewRequests}
 use Rattle.ur_top.specs.declared.reporting.RunEnd.{RunEnd}
 
@@ -28,7 +29,7 @@ pub record Obeyed (told : Option Files) (tells : Type 0) (reading : Option Readi
   pub links : ForApplication told reading (λ s app. sessions ≢ [] → LinksLead app)
   pub ends : Ends told reading old new e sessions
   pub keeper_rose : RoseBy (keeper_faults sessions) old.keeper_faults new.keeper_faults
-  pub wire_rose : RoseBy (wire_faults sessions) old.wire_faults new.wire_faults
+  pub wire_counted : new.wire_faults ≡ count_after (wire_faults sessions + failed_next reading sessions e) old.wire_faults
   pub few : ForServing reading (λ s. length sessions ≤ s.most)
   pub few_requests : HasFewRequests sessions
   -- a command that serves nothing leaves all but the shelf

@@ -1,8 +1,9 @@
 -- Connections, served one after the other by a server.
 use Rattle.std.specs.Prelude.{◌≡◌, ◌≢◌, ◌⊎◌, ℕ, ◌+◌, ◌<◌, ◌≤◌, min, Bool, true, false, List, [], ◌∷◌, ◌++◌, length, Option, Some, Any, All, ⊤}
-use Rattle.ur_base.specs.Counts.{Rose, RoseBy}
+use Rattle.ur_base.specs.Counts.{next_count, Rose}
 use Rattle.ur_base.specs.Told.{WhereTold, Tells}
 use Rattle.ur_io.specs.declared.session.SessionEnd.{SessionEnd}
+use Rattle.ur_io.specs.Calls.{count_after}
 use Rattle.ur_io.specs.Traffic.{Traffic, Opens}
 use Rattle.ur_io.specs.Fronts.{IsFront}
 use Rattle.ur_reports.specs.Texts as texts
@@ -43,8 +44,8 @@ IsTaken told told' = WhereTold told (λ t. Tells told' (λ u. (first : List ℕ)
 
 -- why no connection is served: none was to come, the wire failed, or memory is wanting
 abbrev pub IsOver : Option Traffic → Option Traffic → ℕ → ℕ → Bool → Bool → RunEnd → Type 0
-IsOver told told' faults faults' current current' end.Done = (current' ≡ false) × WhereTold told (λ t. (t.coming ≡ []) × (told' ≡ Some t))
-IsOver told told' faults faults' current current' end.Wire = (current' ≡ false) × (told' ≡ told) × Rose faults faults'
+IsOver told told' faults faults' current current' end.Done = (current' ≡ false) × WhereTold told (λ t. (t.coming ≡ []) × (told' ≡ Some t)) × (faults' ≡ faults)
+IsOver told told' faults faults' current current' end.Wire = (current' ≡ false) × (told' ≡ told) × (faults' ≡ next_count faults)
 IsOver told told' faults faults' current current' end.Memory = (current' ≡ current) × (told' ≡ told) × (faults' ≡ faults)
 IsOver told told' faults faults' current current' other = ⊥
 
@@ -54,12 +55,13 @@ IsOver told told' faults faults' current current' other = ⊥
 abbrev pub HasFewRequests : List SessionEnd → Type 0
 HasFewRequests sessions = (marks_of sessions ≤ 16777216) × All (λ s. length s.marks ≤ 1000) sessions
 
--- why no connection is served any more: all that were allowed are, the wire failed at `next`, or memory is wanting
+-- Why no connection is served any more: all that were allowed are, the wire failed at `next`, or memory is wanting. The wire's count rose by
+-- the sessions that were cut off, and by one more where `next` failed.
 abbrev pub ServesOn : ℕ → Option Traffic → ℕ → ℕ → Bool → RunEnd → List SessionEnd → Type 0
 ServesOn most told faults faults' current' end.Done sessions =
-    (0 < most → current' ≡ false) × WhereTold told (λ t. (length sessions ≡ min most (length t.coming)) ⊎ HasAllMarks sessions)
-ServesOn most told faults faults' current' end.Wire sessions = (length sessions < most) × (current' ≡ false) × Rose faults faults' × RoseBy (wire_faults sessions + 1) faults faults'
-ServesOn most told faults faults' current' end.Memory sessions = sessions ≢ [] → current' ≡ false
+    (0 < most → current' ≡ false) × WhereTold told (λ t. (length sessions ≡ min most (length t.coming)) ⊎ HasAllMarks sessions) × (faults' ≡ count_after (wire_faults sessions) faults)
+ServesOn most told faults faults' current' end.Wire sessions = (length sessions < most) × (current' ≡ false) × (faults' ≡ count_after (wire_faults sessions + 1) faults)
+ServesOn most told faults faults' current' end.Memory sessions = (sessions ≢ [] → current' ≡ false) × (faults' ≡ count_after (wire_faults sessions) faults)
 ServesOn most told faults faults' current' other sessions = ⊥
 
 -- ---- `replay` and the first line

@@ -4,7 +4,7 @@ ghost use Rattle.ur_base.specs.Counts.{RoseBy};
 ghost use Rattle.ur_base.specs.Told.{WhereTold, Tells};
 ghost use Rattle.ur_keeper.specs.Tables.{NumbersUpTo, store_of};
 ghost use Rattle.ur_serve.specs.Serving.{IsReady};
-ghost use Rattle.ur_headline.specs.Counting.{keeper_faults, wire_faults, IsCutOff};
+ghost use Rattle.ur_headline.specs.Counting.{keeper_faults, IsCutOff};
 ghost use Rattle.ur_headline.specs.Served.{HasServed};
 ghost use Rattle.ur_top.specs.Serving.{HasFewRequests, ServesOn};
 
@@ -37,7 +37,6 @@ pub(crate) fn serve_connections<W: Wire, K: Keeper>(
         HasServed server (store_of tables) (K.reads keeper.old) t result.sessions (store_of after) (K.reads keeper.new) u)))) }
     ensures ends { ServesOn most (W.told wire.old) (W.faults wire.old) (W.faults wire.new) (W.is_current wire.new) result.end result.sessions }
     ensures keeper_faults { RoseBy (keeper_faults result.sessions) (K.faults keeper.old) (K.faults keeper.new) }
-    ensures wire_faults { RoseBy (wire_faults result.sessions) (W.faults wire.old) (W.faults wire.new) }
     ensures few { length result.sessions ≤ most }
     ensures requests { HasFewRequests result.sessions }
     ensures idle { result.sessions ≡ [] → WhereTold (W.told wire.old) (λ t. W.told wire.new ≡ Some t) × (K.reads keeper.new ≡ K.reads keeper.old) × (K.saved keeper.new ≡ K.saved keeper.old) }

@@ -2,6 +2,7 @@
 ghost use Rattle.std.specs.Prelude.{◌≡◌, ◌≤◌, ◌<◌, ◌+◌, ℕ, false, length};
 ghost use Rattle.ur_base.specs.Counts.{RoseBy};
 ghost use Rattle.ur_base.specs.Told.{WhereTold, Tells};
+ghost use Rattle.ur_io.specs.Calls.{count_after};
 ghost use Rattle.ur_serve.specs.Serving.{IsReadyWithin};
 ghost use Rattle.ur_serve.specs.Responding.{served_by, holding_of};
 ghost use Rattle.ur_headline.specs.Counting.{keeper_fault, is_wire};
@@ -43,7 +44,7 @@ pub(crate) fn serve_next<W: Wire, K: Keeper>(
     ensures few { IfServed result (λ s. length s.marks ≤ left) }
     ensures short { IfServed result (λ s. length s.marks ≤ 1000) }
     ensures keeper_fault { IfServed result (λ s. RoseBy (keeper_fault s) (K.faults keeper.old) (K.faults keeper.new)) }
-    ensures wire_fault { IfServed result (λ s. RoseBy (is_wire s.why) (W.faults wire.old) (W.faults wire.new)) }
+    ensures wire_counted { IfServed result (λ s. W.faults wire.new ≡ count_after (is_wire s.why) (W.faults wire.old)) }
     ensures shut { IfServed result (λ s. W.is_current wire.new ≡ false) }
     ensures ready { IfServed result (λ s. (bound n : ℕ) → IsReadyWithin bound server.old (K.kept keeper.old) (K.under_way keeper.old) (K.saved keeper.old) (length s.marks + n)
         → IsReadyWithin bound server.new (K.kept keeper.new) (K.under_way keeper.new) (K.saved keeper.new) n) }

@@ -3,6 +3,7 @@ ghost use Rattle.std.specs.Prelude.{◌≡◌, ◌≢◌, ◌⊎◌, ◌≤◌, 
 ghost use Rattle.ur_base.specs.declared.refusal.Refusal.{Refusal};
 ghost use Rattle.ur_base.specs.Counts.{Rose, RoseBy};
 ghost use Rattle.ur_base.specs.Told.{WhereTold, Tells};
+ghost use Rattle.ur_io.specs.Calls.{count_after};
 ghost use Rattle.ur_values.specs.declared.schema.Schema.{Schema};
 ghost use Rattle.ur_keeper.specs.Tables.{Empty, Keeps, store_of};
 ghost use Rattle.ur_tree.specs.declared.typed.Typed.{Typed};
@@ -71,8 +72,11 @@ pub fn run<S: Shelf, W: Wire, K: Keeper, O: Sink>(
     ensures wire_fault { result.status ≡ 6 → Rose (W.faults wire.old) (W.faults wire.new) × IsWireStatus (reading_of (map string_bytes words.now)) result.sessions }
     ensures keeper_fault { result.status ≡ 7 → Rose (K.faults keeper.old) (K.faults keeper.new) × (result.sessions ≡ [])
         × (serving (reading_of (map string_bytes words.now)) ≢ None) }
-    // Each session that the wire cut off, and a failed `next` besides, is one fault of the wire; with `replay` it is seen in the status.
-    ensures cut_off { RoseBy (wire_faults result.sessions + next_failed (reading_of (map string_bytes words.now)) result.status) (W.faults wire.old) (W.faults wire.new) }
+    // The wire's count rose by the sessions that it cut off, and by one more where `next` failed, which the status tells; at 5, where the
+    // sink failed, it may have failed or not. With `replay` a session that was cut off is seen in the status.
+    ensures wire_counted { (W.faults wire.new ≡ count_after (wire_faults result.sessions
+        + next_failed (reading_of (map string_bytes words.now)) result.sessions result.status) (W.faults wire.old))
+        ⊎ ((result.status ≡ 5) × (W.faults wire.new ≡ count_after (wire_faults result.sessions + 1) (W.faults wire.old))) }
     ensures replay_cut { ForServing (reading_of (map string_bytes words.now)) (λ s. Any IsCutOff result.sessions
         → reading_of (map string_bytes words.now) ≡ Some (reading.Replay s.project s.settings) → Contains (5 ∷ 6 ∷ []) result.status) }
     // No connection is left out without a cause; so status 0 never comes where connections were to come and `next` failed.

@@ -1,6 +1,6 @@
 //! Connections in memory.
 ghost use Rattle.std.specs.Prelude.{◌≡◌, ◌≤◌, ◌<◌, ◌↔◌, ◌⊎◌, ◌++◌, ℕ, Bool, true, false, [], Option, Some, IfOk, OnErr, IsErr, MatchResult, length, take, drop, min, slice_get};
-ghost use Rattle.ur_base.specs.Counts.{CountsFaults};
+ghost use Rattle.ur_io.specs.Calls.{CountsCall};
 ghost use Rattle.ur_io.specs.Traffic.{Opens, Reads, after_write};
 ghost use Rattle.ur_base.specs.FaultPlans.{new_plan, Fails, after_failed};
 ghost use Rattle.ur_io.specs.Memory.{IsFull, traffic_of, cut_at, Rises, comes, after_next, next_piece, after_take, after_give};
@@ -105,7 +105,7 @@ impl Wire for MemoryWire {
         ensures err { OnErr result (self.new ≡ record self.old { is_current = false; plan = after_failed self.old.plan }) }
         ensures failed { IsErr result ↔ Fails self.old.plan }
         ensures current { MatchResult result (λ b. self.new.is_current ≡ b) (λ _. self.new.is_current ≡ false) }
-        ensures counts { CountsFaults self.old.plan.faults self.new.plan.faults result }
+        ensures counts { CountsCall self.old.plan.faults self.new.plan.faults result }
     {
         self.current = false;
         if self.plan.fails() {
@@ -137,7 +137,7 @@ impl Wire for MemoryWire {
         ensures failed { IsErr result ↔ Fails self.old.plan }
         ensures within { IfOk result (λ n. n ≤ length buf.old) }
         ensures stays { self.new.is_current ≡ true }
-        ensures counts { CountsFaults self.old.plan.faults self.new.plan.faults result }
+        ensures counts { CountsCall self.old.plan.faults self.new.plan.faults result }
     {
         if self.plan.fails() {
             self.plan.fail();
@@ -163,7 +163,7 @@ impl Wire for MemoryWire {
         ensures within { IfOk result (λ n. n ≤ length piece.now) }
         ensures some { IfOk result (λ n. 0 < length piece.now → 0 < n) }
         ensures stays { self.new.is_current ≡ true }
-        ensures counts { CountsFaults self.old.plan.faults self.new.plan.faults result }
+        ensures counts { CountsCall self.old.plan.faults self.new.plan.faults result }
     {
         if self.plan.fails() || self.space.is_full(piece) {
             self.plan.fail();

@@ -7,7 +7,7 @@ abbrev pub invariant-loop-given : goal.invariant-loop-given
 invariant-loop-given g l = record {
   within : l.given ≤ length l.bytes;
   current : g.W.Wire.is_current l.wire ≡ true;
-  later : g.W.Wire.faults l.initial.wire ≤ g.W.Wire.faults l.wire;
+  same : g.W.Wire.faults l.wire ≡ g.W.Wire.faults l.initial.wire;
   told : Added after_write (g.W.Wire.told l.initial.wire) (take l.given l.bytes) (g.W.Wire.told l.wire);
 }
 

@@ -1,4 +1,4 @@
-use Rattle.std.proofs.Common.{◌≡◌, ◌+◌, length, ap, subst, ◌∙◌, arith, rules}
+use Rattle.std.proofs.Common.{◌≡◌, ◌+◌, length, ap, subst, ◌∙◌, arith}
 use Rattle.ur_base.specs.Told.{WhereTold, Tells}
 use Rattle.ur_http.specs.declared.request.Item.TheVariants as http
 use Rattle.ur_http.specs.Items.{SplitterState, Gives}
@@ -42,7 +42,7 @@ loop-request-preserved g c =
       current = c.fill.ensures.current;
       same_size = c.fill.ensures.buffer ∙ so.same_size;
       unrefused = c.fill.ensures.open ∙ ap (λ (s : SplitterState). s.refused) item.2 ∙ so.unrefused;
-      later = search rules;
+      counted = c.in-Ok.ensures.counts.1 ∙ so.counted;
       grown = omega (arith, grew, so.grown);
       fits = omega (arith, c.in-Ok.ensures.fits);
       taken = taken_fed told0 told1 told2 (length held0) (length held1) (length held2) count so.taken so.grown c.in-Ok.ensures.taken grew;

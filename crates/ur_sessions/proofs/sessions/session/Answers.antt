@@ -8,8 +8,9 @@ use Rattle.ur_io.specs.declared.session.Mark.TheVariants as mark
 use Rattle.ur_io.specs.declared.session.SessionEnd.{SessionEnd}
 use Rattle.ur_http.specs.Items.{greatest_request}
 use Rattle.ur_sessions.specs.declared.arrivals.Arrival.TheVariants as arrival
+use Rattle.ur_sessions.specs.Faults.{count_at_end}
 use Rattle.ur_sessions.specs.Saying.{mark_of, closes_of, bytes_of, Says, IsOver}
-use Rattle.ur_sessions.proofs.Rounds.{InSession, HasSession, in_session-none, in_session-more, has_session-over, has_session-ended, wired_none, over_not_ended, goes_on_done, not_full, keeper_last, rose_later, last_is, wired_more, wired_ended, answerable_on}
+use Rattle.ur_sessions.proofs.Rounds.{InSession, HasSession, in_session-none, in_session-more, has_session-over, has_session-ended, wired_none, over_not_ended, goes_on_done, not_full, keeper_last, rose_later, last_is, wired_more, wired_ended, answerable_on, still_counted}
 use Rattle.ur_sessions.proofs.Taking.{taken_none, taken_ended, taken_round, all_before, last_said}
 use Rattle.ur_sessions.proofs.sessions.session.Goals as goal
 
@@ -23,7 +24,7 @@ loop-why-init g c =
     record {
       current = c.requires.current;
       unrefused = ap (λ s. s.refused) c.clear.ensures;
-      wire_later = omega arith;
+      counted = refl;
       keeper_later = omega arith;
       same = refl;
       short = omega (arith, none, c.requires.some);
@@ -48,6 +49,12 @@ returns-in-Ended-clause-session g c =
     subst (HasSession answers reaches g.A.Responder.kept c.args.most told0 state0 told2 state1) (sym c.ended.ensures)
     (has_session-ended answers reaches g.A.Responder.kept c.args.most told0 told1 told2 state0 state1 c.loop-why.splitter.left c.next_arrival-arrival.new.splitter.left c.loop-why.marks.items c.in-Ended.why
     c.loop-why.invariant.sofar c.in-Ended.ensures.comes c.loop-why.invariant.short)
+
+pub returns-in-Ended-clause-counted : goal.returns-in-Ended-clause-counted
+returns-in-Ended-clause-counted g c =
+    let why : c.ended.result.why ≡ c.in-Ended.why = ap (λ (e : SessionEnd). e.why) c.ended.ensures in
+    subst (λ w. g.W.Wire.faults c.next_arrival-arrival.new.wire ≡ count_at_end w (g.W.Wire.faults c.args.wire.now)) (sym why)
+    (c.in-Ended.ensures.counted ∙ ap (count_at_end c.in-Ended.why) c.loop-why.invariant.counted)
 
 pub returns-in-Ended-clause-few : goal.returns-in-Ended-clause-few
 returns-in-Ended-clause-few g c = omega (arith, c.loop-why.invariant.short, ap (λ (e : SessionEnd). length e.marks) c.ended.ensures)
@@ -118,7 +125,10 @@ returns-in-Some g c =
       keeper = λ any. rose_later (g.A.Responder.faults c.args.keeper.now) (g.A.Responder.faults c.loop-why.keeper) (g.A.Responder.faults c.reply-said.new.keeper) so.keeper_later
           (c.reply-said.ensures.keeper (keeper_last marks what so.done (subst (Any (λ m. m ≡ mark.Keeper)) all any)));
       wire = λ e. rose_later (g.W.Wire.faults c.args.wire.now) (g.W.Wire.faults c.next_arrival-arrival.new.wire) (g.W.Wire.faults c.say-over.new.wire)
-          (omega (arith, so.wire_later, c.next_arrival-arrival.ensures.later)) (c.in-Some.ensures.wire (ap Some (sym why ∙ e)));
+          (omega (arith, so.counted, c.next_arrival-arrival.ensures.later)) (c.in-Some.ensures.wire (ap Some (sym why ∙ e)));
+      counted = subst (λ w. g.W.Wire.faults c.say-over.new.wire ≡ count_at_end w (g.W.Wire.faults c.args.wire.now)) (sym why)
+          (c.in-Some.ensures.counted ∙ ap (count_at_end c.in-Some.why)
+          (still_counted came (g.W.Wire.faults c.next_arrival-arrival.new.wire) (g.W.Wire.faults c.loop-why.wire) c.in_default.not-Ended c.next_arrival-arrival.ensures.counted ∙ so.counted));
       ended = λ e. absurd (over_not_ended (length (marks ++ mark_of what ∷ []) == most) (closes_of what) c.in-Some.why over
           (elim e [ inl x ↦ inl (sym why ∙ x) | inr x ↦ inr (sym why ∙ x) ]));
       current = c.in-Some.ensures.current;
@@ -129,7 +139,7 @@ returns-in-Some g c =
       ready = λ bound n r. c.reply-said.ensures.ready bound n (so.ready bound (suc n)
           (subst (λ k. g.A.Responder.is_ready bound c.args.responder.now c.args.keeper.now k) (omega (arith, count)) r));
       same = c.reply-said.ensures.same ∙ so.same;
-      never_fall = (omega (arith, so.keeper_later, c.reply-said.ensures.later), omega (arith, so.wire_later, c.next_arrival-arrival.ensures.later, c.in-Some.ensures.later));
+      never_fall = (omega (arith, so.keeper_later, c.reply-said.ensures.later), omega (arith, so.counted, c.next_arrival-arrival.ensures.later, c.in-Some.ensures.later));
     }
 
 pub loop-why-preserved : goal.loop-why-preserved
@@ -161,7 +171,7 @@ loop-why-preserved g c =
       current = c.in-None.ensures.current;
       unrefused = answerable_on came c.next_arrival-arrival.new.splitter.refused (length c.say-over.new.marks.items == most) (closes_of what) c.next_arrival-arrival.ensures.answerable
           c.reply-said.ensures.closing c.in-None.ensures.over;
-      wire_later = omega (arith, so.wire_later, c.next_arrival-arrival.ensures.later, c.in-None.ensures.later);
+      counted = c.in-None.ensures.counted ∙ still_counted came (g.W.Wire.faults c.next_arrival-arrival.new.wire) (g.W.Wire.faults c.loop-why.wire) c.in_default.not-Ended c.next_arrival-arrival.ensures.counted ∙ so.counted;
       keeper_later = omega (arith, so.keeper_later, c.reply-said.ensures.later);
       same = c.reply-said.ensures.same ∙ so.same;
       short = grind (arith, nat_tests, kept_on, long, so.short);

@@ -1,13 +1,14 @@
 use Rattle.std.proofs.Common.{◌≡◌, ◌-◌, ◌+◌, ◌<◌, ◌≤◌, [], ◌∷◌, ◌++◌, List, length, All, refl, sym, ap, subst, ◌∙◌, arith, length-append}
 use Rattle.ur_base.specs.Counts.{RoseBy}
 use Rattle.ur_base.specs.Rooms.{RoomOf}
+use Rattle.ur_io.specs.Calls.{count_after}
 use Rattle.ur_io.specs.declared.session.SessionEnd.{SessionEnd}
 use Rattle.ur_serve.specs.Responding.{served_by, holding_of}
 use Rattle.ur_serve.specs.Serving.{IsReadyWithin}
 use Rattle.ur_serve.proofs.Sessions.{ready_at_start}
-use Rattle.ur_headline.specs.Counting.{keeper_fault, keeper_faults, is_wire, wire_faults, marks_of}
+use Rattle.ur_headline.specs.Counting.{keeper_fault, keeper_faults, wire_faults, marks_of}
 use Rattle.ur_headline.proofs.Counting.{sum_last, rose_none}
-use Rattle.ur_top.proofs.Goings.{SoFar, Comes, begun, goes_on, unmoved, stays, has_served_as, none_came, one_came, serves_on, serves_all, ends_as, rose_last, marks_on, marks_less, short_last, none_short, no_requests, few_requests, ready_fewer, not_none}
+use Rattle.ur_top.proofs.Goings.{SoFar, Comes, begun, goes_on, unmoved, stays, has_served_as, none_came, one_came, serves_on, serves_all, serves_out, counted_last, ends_as, rose_last, marks_on, marks_less, short_last, none_short, no_requests, few_requests, ready_fewer, not_none}
 use Rattle.ur_top.specs.Serving.{HasNext, HasFewRequests}
 use Rattle.ur_top.specs.declared.reporting.RunEnd.TheVariants as end
 use Rattle.ur_top.specs.declared.serving.Served.{Served}
@@ -53,7 +54,7 @@ loop-turn-init g c =
       sofar = subst (λ xs. SoFar (served_by c.args.server) told saved reads xs 16777216 told (holding_of c.args.server saved reads)) (sym items) (begun c.args.server told saved reads c.requires.fresh);
       comes = subst (λ (xs : List SessionEnd). Comes told (length xs) told) (sym items) (none_came told);
       keeper_faults = subst (λ xs. RoseBy (keeper_faults xs) keepers keepers) (sym items) (rose_none keepers keepers (omega arith));
-      wire_faults = subst (λ xs. RoseBy (wire_faults xs) wires wires) (sym items) (rose_none wires wires (omega arith));
+      wire_counted = subst (λ xs. wires ≡ count_after (wire_faults xs) wires) (sym items) refl;
       shut = λ some. absurd (some items);
       idle = λ e. (refl, refl);
       wire_later = omega arith;
@@ -92,7 +93,29 @@ returns-clause-ends g c =
     let done = c.loop-turn.sessions.items in
     ends_as c.args.most told faults faults1 current1 done end.Done c.served-2.result c.served-2.ensures
     (serves_all c.args.most told (g.W.Wire.told c.loop-turn.wire) faults faults1 current1 done (omega (arith, so.count, c.loop-turn-test.false)) (omega (arith, so.count, c.loop-turn.auto._turn-end))
-    so.comes so.shut)
+    so.comes so.shut so.wire_counted)
+
+pub returns-then-left-eq0-clause-ends : goal.returns-then-left-eq0-clause-ends
+returns-then-left-eq0-clause-ends g c =
+    let so = c.loop-turn.invariant in
+    let told = g.W.Wire.told c.args.wire.now in
+    let faults = g.W.Wire.faults c.args.wire.now in
+    let faults1 = g.W.Wire.faults c.loop-turn.wire in
+    let current1 = g.W.Wire.is_current c.loop-turn.wire in
+    let done = c.loop-turn.sessions.items in
+    ends_as c.args.most told faults faults1 current1 done end.Done c.served.result c.served.ensures
+    (serves_out c.args.most c.loop-turn.left told faults faults1 current1 done (omega (arith, c.if-left-eq0.true)) so.marks so.shut so.wire_counted)
+
+pub returns-in_default-clause-ends : goal.returns-in_default-clause-ends
+returns-in_default-clause-ends g c =
+    let faults = g.W.Wire.faults c.args.wire.now in
+    ends_as c.args.most (g.W.Wire.told c.args.wire.now) faults faults (g.W.Wire.is_current c.args.wire.now) [] end.Memory c.unserved.result c.unserved.ensures (λ some. absurd (some refl), refl)
+
+pub returns-in_default-new-clause-ends : goal.returns-in_default-new-clause-ends
+returns-in_default-new-clause-ends g c =
+    let faults = g.W.Wire.faults c.args.wire.now in
+    ends_as c.args.most (g.W.Wire.told c.args.wire.now) faults faults (g.W.Wire.is_current c.args.wire.now) [] end.Memory c.unserved-in_default-new.result c.unserved-in_default-new.ensures
+    (λ some. absurd (some refl), refl)
 
 pub returns-in-Over-clause-served : goal.returns-in-Over-clause-served
 returns-in-Over-clause-served g c =
@@ -120,7 +143,7 @@ returns-in-Over-clause-ends g c =
     let current2 = g.W.Wire.is_current c.serve_next.new.wire in
     ends_as c.args.most told faults faults2 current2 c.loop-turn.sessions.items c.in-Over.end c.served-in-Over.result c.served-in-Over.ensures
     (serves_on c.args.most told (g.W.Wire.told c.loop-turn.wire) (g.W.Wire.told c.serve_next.new.wire) faults (g.W.Wire.faults c.loop-turn.wire) faults2 (g.W.Wire.is_current c.loop-turn.wire) current2
-    c.in-Over.end c.loop-turn.sessions.items (omega (arith, so.count, c.loop-turn-test.true)) so.comes so.wire_faults so.shut c.in-Over.ensures.over)
+    c.in-Over.end c.loop-turn.sessions.items (omega (arith, so.count, c.loop-turn-test.true)) so.comes so.wire_counted so.shut c.in-Over.ensures.over)
 
 pub loop-turn-preserved : goal.loop-turn-preserved
 loop-turn-preserved g c =
@@ -164,9 +187,8 @@ loop-turn-preserved g c =
       comes = subst (λ (xs : List SessionEnd). Comes told (length xs) told2) (sym items) (one_came told told1 told2 done s so.comes c.in-Served.ensures.taken);
       keeper_faults = subst (λ xs. RoseBy (keeper_faults xs) keepers keepers2) (sym items)
           (rose_last keeper_fault keeper_faults done s keepers (g.K.Keeper.faults c.loop-turn.keeper) keepers2 (sum_last keeper_fault done s) so.keeper_faults c.in-Served.ensures.keeper_fault);
-      wire_faults = subst (λ xs. RoseBy (wire_faults xs) wires wires2) (sym items)
-          (rose_last (λ (x : SessionEnd). is_wire x.why) wire_faults done s wires (g.W.Wire.faults c.loop-turn.wire) wires2 (sum_last (λ (x : SessionEnd). is_wire x.why) done s) so.wire_faults
-          c.in-Served.ensures.wire_fault);
+      wire_counted = subst (λ xs. wires2 ≡ count_after (wire_faults xs) wires) (sym items)
+          (counted_last done s wires (g.W.Wire.faults c.loop-turn.wire) wires2 so.wire_counted c.in-Served.ensures.wire_counted);
       shut = λ some. c.in-Served.ensures.shut;
       idle = λ e. absurd (not_none done s (sym items ∙ e));
       wire_later = omega (arith, so.wire_later, c.serve_next.ensures.never_fall.0);

@@ -1,5 +1,6 @@
 use Rattle.std.proofs.Common.{◌≡◌, ◌≢◌, ◌≤◌, ◌+◌, false, [], length, All}
 use Rattle.ur_base.specs.Counts.{RoseBy}
+use Rattle.ur_io.specs.Calls.{count_after}
 use Rattle.ur_io.specs.declared.session.SessionEnd.{SessionEnd}
 use Rattle.ur_serve.specs.Serving.{IsReadyWithin}
 use Rattle.ur_serve.specs.Responding.{served_by, holding_of}
@@ -20,7 +21,7 @@ invariant-loop-turn g l = record {
       (g.W.Wire.told l.wire) (holding_of l.server (g.K.Keeper.saved l.keeper) (g.K.Keeper.reads l.keeper));
   comes : Comes (g.W.Wire.told l.fn.wire) (length l.sessions.items) (g.W.Wire.told l.wire);
   keeper_faults : RoseBy (keeper_faults l.sessions.items) (g.K.Keeper.faults l.fn.keeper) (g.K.Keeper.faults l.keeper);
-  wire_faults : RoseBy (wire_faults l.sessions.items) (g.W.Wire.faults l.fn.wire) (g.W.Wire.faults l.wire);
+  wire_counted : g.W.Wire.faults l.wire ≡ count_after (wire_faults l.sessions.items) (g.W.Wire.faults l.fn.wire);
   shut : l.sessions.items ≢ [] → g.W.Wire.is_current l.wire ≡ false;
   idle : l.sessions.items ≡ [] → (l.wire ≡ l.fn.wire) × (l.keeper ≡ l.fn.keeper);
   wire_later : g.W.Wire.faults l.fn.wire ≤ g.W.Wire.faults l.wire;

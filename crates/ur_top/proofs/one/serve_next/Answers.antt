@@ -1,11 +1,13 @@
-use Rattle.std.proofs.Common.{◌≡◌, min, true, sym, subst, arith}
+use Rattle.std.proofs.Common.{◌≡◌, min, true, sym, ap, subst, ◌∙◌, arith}
 use Rattle.ur_base.specs.Counts.{RoseBy}
 use Rattle.ur_base.specs.Told.{WhereTold}
 use Rattle.ur_io.specs.declared.session.SessionEnd.{SessionEnd}
+use Rattle.ur_io.specs.Calls.{count_after}
 use Rattle.ur_io.specs.Traffic.{Opens}
+use Rattle.ur_sessions.specs.Faults.{count_at_end}
 use Rattle.ur_serve.specs.Responding.{served_by, holding_of}
-use Rattle.ur_headline.specs.Counting.{keeper_fault}
-use Rattle.ur_top.proofs.Sessioned.{HasSession, next_session, next_taken, keeper_rose}
+use Rattle.ur_headline.specs.Counting.{keeper_fault, is_wire}
+use Rattle.ur_top.proofs.Sessioned.{HasSession, next_session, next_taken, keeper_rose, wire_counted}
 use Rattle.ur_top.proofs.one.serve_next.Goals as goal
 
 pub returns-clause-session : goal.returns-clause-session
@@ -28,6 +30,15 @@ returns-clause-taken g c =
     let told1 = g.W.Wire.told c.next.new.self in
     next_taken told0 told1 (g.W.Wire.told c.session-end.new.wire) (g.W.Wire.told c.shut.new.self)
     (subst (λ b. WhereTold told0 (λ t. Opens t b told1)) c.in-Ok-true.field-0-test c.in-Ok-true.ensures.contents) c.session-end.ensures.coming c.shut.ensures.contents
+
+pub returns-clause-wire_counted : goal.returns-clause-wire_counted
+returns-clause-wire_counted g c =
+    let old = g.W.Wire.faults c.args.wire.now in
+    let new = g.W.Wire.faults c.shut.new.self in
+    let opened : g.W.Wire.faults c.next.new.self ≡ old = c.in-Ok-true.ensures.counts.1 in
+    let counted : new ≡ count_at_end c.session-end.result.why old =
+    c.shut.ensures.counts ∙ c.session-end.ensures.counted ∙ ap (count_at_end c.session-end.result.why) opened in
+    subst (λ (s : SessionEnd). new ≡ count_after (is_wire s.why) old) (sym c.trimmed.ensures) (counted ∙ wire_counted c.session-end.result.why old)
 
 pub returns-clause-keeper_fault : goal.returns-clause-keeper_fault
 returns-clause-keeper_fault g c =

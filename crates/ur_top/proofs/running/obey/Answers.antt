@@ -27,7 +27,7 @@ returns-in-Err-clause-obeyed g c =
     let old : World = record { shelf_faults = g.S.Shelf.faults c.args.shelf.now; wire = g.W.Wire.told c.args.wire.now; current = g.W.Wire.is_current c.args.wire.now; wire_faults = g.W.Wire.faults c.args.wire.now; kept = g.K.Keeper.kept c.args.keeper.now; saved = g.K.Keeper.saved c.args.keeper.now; reads = g.K.Keeper.reads c.args.keeper.now; under_way = g.K.Keeper.under_way c.args.keeper.now; keeper_faults = g.K.Keeper.faults c.args.keeper.now } in
     let idle : IsIdle old old = record { wire = refl; current = refl; wire_faults = refl; kept = refl; saved = refl; reads = refl; at_rest = c.requires; shelf_later = omega arith; keeper_later = omega arith } in
     subst (λ (r : Served). Obeyed files tells asked old old r.end r.sessions) (sym c.unserved-in-Err.ensures)
-    (idle_obeys files tells asked old old end.Memory idle (λ none. refl) (no_memory files asked old old))
+    (idle_obeys files tells asked old old end.Memory idle (λ none. refl) refl (no_memory files asked old old))
 
 pub returns-in-Ok-None-clause-obeyed : goal.returns-in-Ok-None-clause-obeyed
 returns-in-Ok-None-clause-obeyed g c =
@@ -37,4 +37,4 @@ returns-in-Ok-None-clause-obeyed g c =
     let old : World = record { shelf_faults = g.S.Shelf.faults c.args.shelf.now; wire = g.W.Wire.told c.args.wire.now; current = g.W.Wire.is_current c.args.wire.now; wire_faults = g.W.Wire.faults c.args.wire.now; kept = g.K.Keeper.kept c.args.keeper.now; saved = g.K.Keeper.saved c.args.keeper.now; reads = g.K.Keeper.reads c.args.keeper.now; under_way = g.K.Keeper.under_way c.args.keeper.now; keeper_faults = g.K.Keeper.faults c.args.keeper.now } in
     let idle : IsIdle old old = record { wire = refl; current = refl; wire_faults = refl; kept = refl; saved = refl; reads = refl; at_rest = c.requires; shelf_later = omega arith; keeper_later = omega arith } in
     subst (λ (r : Served). Obeyed files tells asked old old r.end r.sessions) (sym c.unserved.ensures)
-    (idle_obeys files tells asked old old end.Usage idle (λ none. refl) (sym c.in-Ok-None.ensures ∙ c.in-Ok-None.field-0-is, no_calls old old idle))
+    (idle_obeys files tells asked old old end.Usage idle (λ none. refl) refl (sym c.in-Ok-None.ensures ∙ c.in-Ok-None.field-0-is, no_calls old old idle))

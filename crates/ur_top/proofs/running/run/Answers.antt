@@ -66,9 +66,9 @@ pub returns-clause-keeper_fault : goal.returns-clause-keeper_fault
 returns-clause-keeper_fault g c =
     of.keeper_fault c.report-status.result c.obey-end.ensures.obeyed c.report-status.ensures.status
 
-pub returns-clause-cut_off : goal.returns-clause-cut_off
-returns-clause-cut_off g c =
-    of.cut_off c.report-status.result c.obey-end.ensures.obeyed c.report-status.ensures.status
+pub returns-clause-wire_counted : goal.returns-clause-wire_counted
+returns-clause-wire_counted g c =
+    of.wire_counted c.report-status.result c.obey-end.ensures.obeyed c.report-status.ensures.status
 
 pub returns-clause-replay_cut : goal.returns-clause-replay_cut
 returns-clause-replay_cut g c =

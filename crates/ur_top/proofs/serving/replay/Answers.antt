@@ -5,7 +5,7 @@ use Rattle.ur_top.specs.Ends.{World}
 use Rattle.ur_top.specs.Starting.{Held}
 use Rattle.ur_top.specs.Obeyed.{Obeyed}
 use Rattle.ur_top.specs.declared.serving.Served.{Served}
-use Rattle.ur_top.proofs.ObeyingIdle.{IsIdle, idle_obeys, unstarted_ends}
+use Rattle.ur_top.proofs.ObeyingIdle.{IsIdle, held, idle_obeys, unstarted_next, unstarted_ends}
 use Rattle.ur_top.proofs.ObeyingServed.{has_run, replay_obeys}
 use Rattle.ur_top.proofs.serving.replay.Goals as goal
 
@@ -20,7 +20,7 @@ returns-in-Ok-clause-obeyed g c =
     c.in-Ok.ensures.started new c.serve_connections.result.sessions c.serve_connections.result.end c.replayed.result.end c.replayed.result.sessions
     (has_run tells 1 old mid (g.K.Keeper.reads c.started.new.keeper) c.in-Ok.server new c.serve_connections.result.sessions c.started.ensures.reads
     (λ (t : TellsTables g.row.K.Denot g.K.Keeper.kept g.K.Keeper.saved). t c.started.new.keeper c.in-Ok.server.code.schema c.in-Ok.ensures.started.server.ready.schema)
-    c.serve_connections.ensures.served c.serve_connections.ensures.keeper_faults c.serve_connections.ensures.wire_faults c.serve_connections.ensures.few c.serve_connections.ensures.requests c.serve_connections.ensures.idle
+    c.serve_connections.ensures.served c.serve_connections.ensures.keeper_faults c.serve_connections.ensures.few c.serve_connections.ensures.requests c.serve_connections.ensures.idle
     c.serve_connections.ensures.kept c.serve_connections.ensures.at_rest c.serve_connections.ensures.never_fall c.started.ensures.never_fall)
     c.serve_connections.ensures.ends c.replayed.ensures
 
@@ -33,4 +33,6 @@ returns-in-Err-clause-obeyed g c =
     let asked = Some (reading.Replay c.args.project.now c.args.settings.now) in
     let idle : IsIdle old new = record { wire = refl; current = refl; wire_faults = refl; kept = c.in-Err.ensures.err.1; saved = c.in-Err.ensures.err.0; reads = c.started.ensures.reads; at_rest = c.in-Err.ensures.err.2; shelf_later = c.started.ensures.never_fall.0; keeper_later = c.started.ensures.never_fall.1 } in
     subst (λ (r : Served). Obeyed files tells asked old new r.end r.sessions) (sym c.unserved.ensures)
-    (idle_obeys files tells asked old new c.in-Err.end idle (λ none. cc) (unstarted_ends files asked c.args.project.now (λ P h. h) tt (λ none. cc) old new c.in-Err.end c.in-Err.ensures.ends idle))
+    (idle_obeys files tells asked old new c.in-Err.end idle (λ none. cc)
+    (unstarted_next files c.args.project.now (g.S.Shelf.faults c.args.shelf.now) (g.S.Shelf.faults c.started.new.shelf) (held old) (held new) asked c.in-Err.end c.in-Err.ensures.ends)
+    (unstarted_ends files asked c.args.project.now (λ P h. h) tt (λ none. cc) old new c.in-Err.end c.in-Err.ensures.ends idle))

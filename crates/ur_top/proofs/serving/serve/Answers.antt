@@ -5,8 +5,8 @@ use Rattle.ur_top.specs.Ends.{World}
 use Rattle.ur_top.specs.Starting.{Held}
 use Rattle.ur_top.specs.Obeyed.{Obeyed}
 use Rattle.ur_top.specs.declared.serving.Served.{Served}
-use Rattle.ur_top.proofs.ObeyingIdle.{IsIdle, idle_obeys, unstarted_ends, unsaid}
-use Rattle.ur_top.proofs.ObeyingServed.{has_run, serve_obeys, stopped_obeys, line_serves}
+use Rattle.ur_top.proofs.ObeyingIdle.{IsIdle, held, idle_obeys, unstarted_next, unstarted_ends, unsaid}
+use Rattle.ur_top.proofs.ObeyingServed.{has_run, serve_obeys, stopped_obeys, line_serves, line_next}
 use Rattle.ur_top.proofs.ObeyingSaid.{Says, unstarted_said, unstarted_sink, line_said, line_sink, line_ends, served_said, served_sink}
 use Rattle.ur_top.proofs.serving.serve.Goals as goal
 
@@ -21,7 +21,7 @@ returns-in-Ok-say_port-clause-obeyed g c =
     c.in-Ok.ensures.started new c.serve_connections.result.sessions c.args.port c.args.most c.serve_connections.result.end c.requires.some
     (has_run tells c.args.most old mid (g.K.Keeper.reads c.started.new.keeper) c.in-Ok.server new c.serve_connections.result.sessions c.started.ensures.reads
     (λ (t : TellsTables g.row.K.Denot g.K.Keeper.kept g.K.Keeper.saved). t c.started.new.keeper c.in-Ok.server.code.schema c.in-Ok.ensures.started.server.ready.schema)
-    c.serve_connections.ensures.served c.serve_connections.ensures.keeper_faults c.serve_connections.ensures.wire_faults c.serve_connections.ensures.few c.serve_connections.ensures.requests c.serve_connections.ensures.idle
+    c.serve_connections.ensures.served c.serve_connections.ensures.keeper_faults c.serve_connections.ensures.few c.serve_connections.ensures.requests c.serve_connections.ensures.idle
     c.serve_connections.ensures.kept c.serve_connections.ensures.at_rest c.serve_connections.ensures.never_fall c.started.ensures.never_fall)
     c.serve_connections.ensures.ends
 
@@ -51,7 +51,9 @@ returns-in-Err-say_port-clause-obeyed g c =
     (stopped_obeys c.one_application.ensures c.served_run_serves.ensures c.links_of_source_lead.ensures files tells asked (record { project = c.args.project.now; settings = c.args.settings.now; most = c.args.most }) refl old mid
     (g.K.Keeper.under_way c.started.new.keeper) c.in-Ok.server c.in-Ok.ensures.started new c.in-Err-say_port.end
     (line_serves c.args.port (g.O.Sink.told c.args.out.now) (g.O.Sink.told c.say_port.new.out) (g.O.Sink.faults c.args.out.now) (g.O.Sink.faults c.say_port.new.out) c.in-Err-say_port.end c.in-Err-say_port.ensures.ends)
-    refl refl refl c.started.ensures.reads refl c.started.ensures.never_fall.0
+    refl refl refl c.started.ensures.reads refl
+    (line_next c.args.port (g.O.Sink.told c.args.out.now) (g.O.Sink.told c.say_port.new.out) (g.O.Sink.faults c.args.out.now) (g.O.Sink.faults c.say_port.new.out) asked c.in-Err-say_port.end c.in-Err-say_port.ensures.ends)
+    c.started.ensures.never_fall.0
     c.started.ensures.never_fall.1 (λ (t : TellsTables g.row.K.Denot g.K.Keeper.kept g.K.Keeper.saved). t c.started.new.keeper c.in-Ok.server.code.schema c.in-Ok.ensures.started.server.ready.schema)
     (line_ends c.args.project.now c.args.port c.args.settings.now c.args.most (g.O.Sink.told c.args.out.now) (g.O.Sink.told c.say_port.new.out) (g.O.Sink.faults c.args.out.now)
     (g.O.Sink.faults c.say_port.new.out) files old new c.in-Err-say_port.end c.in-Err-say_port.ensures.ends (record { none = refl; same_wire = refl; same_faults = refl; same_current = refl })))
@@ -79,7 +81,9 @@ returns-in-Err-clause-obeyed g c =
     let asked = Some (reading.Serve c.args.project.now c.args.port c.args.settings.now c.args.most) in
     let idle : IsIdle old new = record { wire = refl; current = refl; wire_faults = refl; kept = c.in-Err.ensures.err.1; saved = c.in-Err.ensures.err.0; reads = c.started.ensures.reads; at_rest = c.in-Err.ensures.err.2; shelf_later = c.started.ensures.never_fall.0; keeper_later = c.started.ensures.never_fall.1 } in
     subst (λ (r : Served). Obeyed files tells asked old new r.end r.sessions) (sym c.unserved-in-Err.ensures)
-    (idle_obeys files tells asked old new c.in-Err.end idle (λ none. cc) (unstarted_ends files asked c.args.project.now (λ P h. h) tt (λ none. cc) old new c.in-Err.end c.in-Err.ensures.ends idle))
+    (idle_obeys files tells asked old new c.in-Err.end idle (λ none. cc)
+    (unstarted_next files c.args.project.now (g.S.Shelf.faults c.args.shelf.now) (g.S.Shelf.faults c.started.new.shelf) (held old) (held new) asked c.in-Err.end c.in-Err.ensures.ends)
+    (unstarted_ends files asked c.args.project.now (λ P h. h) tt (λ none. cc) old new c.in-Err.end c.in-Err.ensures.ends idle))
 
 pub returns-in-Err-clause-said : goal.returns-in-Err-clause-said
 returns-in-Err-clause-said g c =
