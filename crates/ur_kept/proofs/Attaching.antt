@@ -1,14 +1,15 @@
 -- A store that is taken for a schema.
 use Rattle.std.proofs.Common.{◌≡◌, ◌≢◌, ℕ, zero, suc, ◌+◌, ◌≤◌, ◌<◌, ℤ, pos, ◌≤ℤ◌, Bool, true, false, not, cond, nat_lt, List, [], ◌∷◌, ◌++◌, length, map, All, Option, Some, None, IfSome, IsNone, is_some, option_map, refl, ap, sym, subst, ◌∙◌, inl, inr, arith}
-use Rattle.std.specs.Prelude.{IsSome, IsTrue, slice_get, unwrap_or}
+use Rattle.std.specs.Prelude.{slice_get, unwrap_or}
 use Rattle.std.specs.List.{AllZip, prefix_len, range_with_len}
-use Rattle.std.specs.Ordering.{int_cmp, int_eq, eq_by_cmp, is_eq}
+use Rattle.std.specs.Ordering.{int_eq, is_eq}
 use Rattle.std.specs.Cmp.{int_cmp_total, tied_itself}
 use Rattle.std.specs.FinMap.{insert, get-insert}
 use Rattle.std.proofs.lemmas.Int.{ints}
-use Rattle.std.proofs.lemmas.Bool.{cases_eq, false≢true}
+use Rattle.std.proofs.lemmas.Bool.{cases_eq}
 use Rattle.std.proofs.lemmas.Bool.Decides.{nat_tests}
-use Rattle.std.proofs.lemmas.List.Elements.{All-nil, All-cons}
+use Rattle.std.proofs.lemmas.List.FromFn.{get_or-map-range_with_len}
+use Rattle.std.proofs.lemmas.List.Elements.{All-nil, All-cons, All-get_or}
 use Rattle.ur_base.specs.Told.{WhereTold}
 use Rattle.ur_values.specs.declared.schema.Schema.{Schema}
 use Rattle.ur_values.specs.declared.schema.TableShape.{TableShape}
@@ -17,29 +18,30 @@ use Rattle.ur_values.specs.SchemaText.{schema_text}
 use Rattle.ur_values.specs.Store.{FitsShape, IsStorable}
 use Rattle.ur_values.specs.Values.{IsInt}
 use Rattle.ur_values.specs.Keys.{key_of, repeats, repeated_key}
-use Rattle.ur_keeper.specs.Tables.{Tables, AreRowsOf, AreTablesOf, AreSound, MayCommit, MayCommitTable, NumbersUpTo, empty_tables}
-use Rattle.ur_layout.specs.Rows.{int_body, number_of}
+use Rattle.ur_keeper.specs.Tables.{AreRowsOf, AreSound, MayCommitTable, empty_tables}
+use Rattle.ur_layout.specs.Rows.{int_body}
 use Rattle.ur_layout.proofs.RowLaws.{int-read}
 use Rattle.ur_bodies.specs.declared.bodies.BodyChange.{BodyChange}
 use Rattle.ur_bodies.specs.declared.bodies.BodyChange.TheVariants as change
 use Rattle.ur_bodies.specs.Bodies.{BodyMap, body_at, bodies_of, written, CanWrite}
 use Rattle.ur_bodies.proofs.Places.{place_total}
-use Rattle.ur_bodies.proofs.Tables.{bodies-put-elsewhere, place-tie}
-use Rattle.ur_laid.specs.Laid.{text_at, table_tab, columns_of, kinds_at, rows_in, table_in, number_in, number_of_body, tables_in, IsRowBody, IsNumberBody, IsLaid}
+use Rattle.ur_bodies.proofs.Tables.{bodies-find, bodies-put-elsewhere, place-tie}
+use Rattle.ur_laid.specs.Laid.{text_at, table_tab, columns_of, kinds_at, rows_in, table_in, number_in, number_of_body, IsRowBody, IsLaid}
 use Rattle.ur_laid.proofs.Laws.{apart-from-tables, other-number}
-use Rattle.ur_kept.specs.Kept.{no_changes, AreRead, IsPending, IsNumber}
+use Rattle.ur_kept.specs.Kept.{AreRead, AreLow}
 use Rattle.ur_kept.specs.Attach.{IsSoundRows, IsSoundTable, IsSoundSequence, IsSoundStore, ones, IsFresh, IsTaken, Starts}
-use Rattle.ur_kept.proofs.Steps.{text-put, none-drawn}
+use Rattle.ur_kept.proofs.Low.{has-low, none-low}
+use Rattle.ur_kept.proofs.Steps.{has-there, text-put, none-drawn}
 
 -- ---- place by place
 
-shift : (k i : ℕ) → k + suc i ≡ k + 1 + i
+pub shift : (k i : ℕ) → k + suc i ≡ k + 1 + i
 shift k i = omega arith
 
-from-here : (k : ℕ) → k + 0 ≡ k
+pub from-here : (k : ℕ) → k + 0 ≡ k
 from-here k = omega arith
 
-from-zero : (i : ℕ) → 0 + i ≡ i
+pub from-zero : (i : ℕ) → 0 + i ≡ i
 from-zero i = omega arith
 
 zip-range : {A B : Type 0} (R : A → B → Type 0) (f : ℕ → B) (xs : List A) (k : ℕ) → ((i : ℕ) → i < length xs → IfSome (slice_get xs i) (λ x. R x (f (k + i)))) → AllZip R xs (map f (range_with_len k (length xs)))
@@ -60,11 +62,18 @@ pub map-range : {A B : Type 0} (f : ℕ → B) (b : B) (xs : List A) (k : ℕ) �
 map-range f b [] k h = refl
 map-range f b (x ∷ xs) k h = λ j. h k (omega arith) (omega arith) j ∷ map-range f b xs (k + 1) (λ i l u. h i (omega (arith, l)) (omega (arith, u))) j
 
-some-weaker : {A : Type 0} (o : Option A) (P Q : A → Type 0) → ((x : A) → P x → Q x) → IfSome o P → IfSome o Q
+length-range : {B : Type 0} (f : ℕ → B) (n k : ℕ) → length (map f (range_with_len k n)) ≡ n
+length-range f zero k = refl
+length-range f (suc n) k = omega (arith, length-range f n (k + 1))
+
+pub unall-range : {B : Type 0} (P : B → Type 0) (f : ℕ → B) (n i : ℕ) → i < n → All P (map f (range_with_len 0 n)) → P (f i)
+unall-range P f n i l h = subst P (get_or-map-range_with_len f 0 n i i (f i) l (omega arith)) (All-get_or P (map f (range_with_len 0 n)) i (f i) (omega (arith, l, length-range f n 0)) h)
+
+pub some-weaker : {A : Type 0} (o : Option A) (P Q : A → Type 0) → ((x : A) → P x → Q x) → IfSome o P → IfSome o Q
 some-weaker None P Q f p = tt
 some-weaker (Some x) P Q f p = f x p
 
-some-there : {A : Type 0} (xs : List A) (i : ℕ) → i < length xs → (P : Type 0) → IfSome (slice_get xs i) (λ _. P) → P
+pub some-there : {A : Type 0} (xs : List A) (i : ℕ) → i < length xs → (P : Type 0) → IfSome (slice_get xs i) (λ _. P) → P
 some-there [] i l P h = absurd (omega (arith, l))
 some-there (x ∷ xs) zero l P h = h
 some-there (x ∷ xs) (suc i) l P h = some-there xs i (omega (arith, l)) P h
@@ -246,11 +255,14 @@ module _ (s : Schema) (m : BodyMap) (none : None ≡ text_at m) (rows : (i : ℕ
     sequences = λ i l. (one, pos 1, number-made i l, ap Some (int-read (pos 1) one-fits), omega (arith, ints));
   }
 
+  low-made : AreLow s made
+  low-made = none-low s made no-bodies
+
   pub started : IsFresh s made
   started =
       let text = ones-text texted 0 n ∙ text-here in
       record {
-        pending = record { good = record { text = text; saved = laid-made; fits = tt; text_stays = text; current = laid-made }; seen = tt; drawn = none-drawn made };
+        pending = record { good = record { text = text; saved = laid-made; fits = tt; text_stays = text; current = laid-made; low = low-made; stays_low = low-made }; seen = tt; drawn = none-drawn made };
         tables = λ j. record {
           tables = map-range (table_in s made) [] s.tables 0 (λ i l u. ap (rows_in (kinds_at s i)) (no-bodies i (omega (arith, u)))) j;
           sequences = map-range (number_in made) (pos 1) s.sequences 0 (λ i l u. ap number_of_body (number-made i (omega (arith, u))) ∙ ap (λ o. unwrap_or o (pos 1)) (ap Some (int-read (pos 1) one-fits))) j;
@@ -305,8 +317,13 @@ table-told s (Some m) table place rows next shape e there read fits sound =
     (subst (λ (t : ℕ). AreRead (columns_of (slice_get s.tables t)) (bodies_of m (table_tab t)) rows next) e read)
     (subst (λ (t : ℕ). IfSome (slice_get s.tables t) (λ (x : TableShape). AreRowsOf x rows)) e fits) sound
 
+sound-low : (s : Schema) (m : BodyMap) → IsSoundStore s m → AreLow s m
+sound-low s m h i n l there =
+    let rows : All (λ r. r.number ≤ 4611686018427387904) (table_in s m i) = unall-range (All (λ (r : Numbered). r.number ≤ 4611686018427387904)) (table_in s m) (length s.tables) i l h.sound.numbers.rows in
+    has-low (table_in s m i) n rows (sym (ap is_some (sym (bodies-find m (table_tab i) (pos n))) ∙ has-there (kinds_at s i) n (bodies_of m (table_tab i)) (h.laid.tables i l)) ∙ there)
+
 taken : (s : Schema) (m : BodyMap) → text_at m ≡ Some (schema_text s) → IsSoundStore s m → IsTaken s m
-taken s m text h = record { pending = record { good = record { text = text; saved = h.laid; fits = tt; text_stays = text; current = h.laid }; seen = tt; drawn = none-drawn m }; sound = h.sound }
+taken s m text h = record { pending = record { good = record { text = text; saved = h.laid; fits = tt; text_stays = text; current = h.laid; low = sound-low s m h; stays_low = sound-low s m h }; seen = tt; drawn = none-drawn m }; sound = h.sound }
 
 pub taken-told : (s : Schema) (told : Option BodyMap) (kept : List ℕ) → kept ≡ schema_text s → WhereTold told (λ m. Some kept ≡ text_at m) → WhereTold told (IsSoundStore s) → WhereTold told (IsTaken s)
 taken-told s None kept e text h = tt

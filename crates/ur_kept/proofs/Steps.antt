@@ -1,6 +1,6 @@
 -- One more change of a store.
 use Rattle.std.proofs.Common.{◌≡◌, ℕ, ◌+◌, ◌≤◌, ◌<◌, max, ℤ, pos, ◌+ℤ◌, ◌≤ℤ◌, ◌<ℤ◌, Bool, true, false, not, cond, ◌||◌, ◌==◌, List, [], ◌∷◌, ◌++◌, length, map, get_or, fold, All, Option, Some, None, IfSome, is_some, refl, ap, sym, subst, subst₂, ◌∙◌, arith}
-use Rattle.std.specs.Prelude.{IsTrue, unsigned_abs, unwrap_or}
+use Rattle.std.specs.Prelude.{unsigned_abs, unwrap_or}
 use Rattle.std.specs.Ordering.{int_cmp, int_eq, eq_by_cmp}
 use Rattle.std.specs.FinMap.{insert, remove, find, get-insert, get-remove}
 use Rattle.std.proofs.lemmas.Int.{ints}
@@ -27,7 +27,8 @@ use Rattle.ur_laid.specs.Laid.{table_tab, text_at, kinds_at, rows_in, table_in, 
 use Rattle.ur_laid.proofs.Rows.{fold-least, rows-added, same-number}
 use Rattle.ur_laid.proofs.Laws.{inserted-in, laid-inserted, replaced-in, laid-replaced, removed-in, laid-removed, drawn-in, laid-drawn, apart-from-tables}
 use Rattle.ur_kept.specs.declared.pending.Pending.{Pending}
-use Rattle.ur_kept.specs.Kept.{no_changes, IsGood, IsSeen, IsPending, IsChanged, IsNumber, AreDrawn}
+use Rattle.ur_kept.specs.Kept.{no_changes, AreLow, IsGood, IsSeen, IsPending, IsChanged, IsNumber, AreDrawn}
+use Rattle.ur_kept.proofs.Low.{low-place, low-there, low-other, low-put, low-taken}
 
 -- ---- the list of changes
 
@@ -131,10 +132,10 @@ is-next s (Some m) p q n h e low = subst (λ (z : ℤ). IsNumber (body_at (writt
 -- ---- given up, and saved
 
 pub given-up : (s : Schema) (m : BodyMap) (p : Pending) → IsPending s m p → IsPending s m no_changes
-given-up s m p h = record { good = record { text = h.good.text; saved = h.good.saved; fits = tt; text_stays = h.good.text; current = h.good.saved }; seen = tt; drawn = none-drawn m }
+given-up s m p h = record { good = record { text = h.good.text; saved = h.good.saved; fits = tt; text_stays = h.good.text; current = h.good.saved; low = h.good.low; stays_low = h.good.low }; seen = tt; drawn = none-drawn m }
 
 pub saved-now : (s : Schema) (m : BodyMap) (p : Pending) → IsPending s m p → IsPending s (written m p.changes) no_changes
-saved-now s m p h = record { good = record { text = h.good.text_stays; saved = h.good.current; fits = tt; text_stays = h.good.text_stays; current = h.good.current }; seen = tt; drawn = none-drawn (written m p.changes) }
+saved-now s m p h = record { good = record { text = h.good.text_stays; saved = h.good.current; fits = tt; text_stays = h.good.text_stays; current = h.good.current; low = h.good.stays_low; stays_low = h.good.stays_low }; seen = tt; drawn = none-drawn (written m p.changes) }
 
 -- ---- one more change
 
@@ -142,8 +143,8 @@ module _ (s : Schema) (m : BodyMap) (old : Pending) (p : IsPending s m old) wher
   abbrev now : BodyMap
   now = written m old.changes
 
-  good-push : (c : BodyChange) → CanWriteOne now c → text_at (written_one now c) ≡ text_at now → IsLaid s (written_one now c) → IsGood s m (old.changes ++ c ∷ [])
-  good-push c can text laid =
+  good-push : (c : BodyChange) → CanWriteOne now c → text_at (written_one now c) ≡ text_at now → IsLaid s (written_one now c) → AreLow s (written_one now c) → IsGood s m (old.changes ++ c ∷ [])
+  good-push c can text laid low =
       let e = written-push m old.changes c in
       record {
         text = p.good.text;
@@ -151,9 +152,11 @@ module _ (s : Schema) (m : BodyMap) (old : Pending) (p : IsPending s m old) wher
         fits = can-push m old.changes c p.good.fits can;
         text_stays = ap text_at e ∙ text ∙ p.good.text_stays;
         current = subst (λ (x : BodyMap). IsLaid s x) (sym e) laid;
+        low = p.good.low;
+        stays_low = subst (λ (x : BodyMap). AreLow s x) (sym e) low;
       }
 
-  is-there : (i n : ℕ) → i < length s.tables → is_some (body_at now (table_tab i) (pos n)) ≡ has_number (table_in s now i) n
+  pub is-there : (i n : ℕ) → i < length s.tables → is_some (body_at now (table_tab i) (pos n)) ≡ has_number (table_in s now i) n
   is-there i n l = ap is_some (sym (bodies-find now (table_tab i) (pos n))) ∙ has-there (kinds_at s i) n (bodies_of now (table_tab i)) (p.good.current.tables i l)
 
   module _ (i : ℕ) (row : Row) (l : i < length s.tables) (may : MayStand (kinds_at s i) row) where
@@ -175,23 +178,23 @@ module _ (s : Schema) (m : BodyMap) (old : Pending) (p : IsPending s m old) wher
     seen-added None h = tt
     seen-added (Some x) h = subst (λ (q : ℕ × ℤ). q.1 ≡ pos (next_number (table_in s added q.0))) (sym h) next-there
 
-    inserted-next : (seen : Option (ℕ × ℤ)) → IfSome seen (λ x. x ≡ (i, pos next +ℤ pos 1)) → IsChanged s (inserted i row) m old (record { changes = old.changes ++ change.Add (table_tab i) (pos next) (row_body row) ∷ []; seen = seen; drawn = old.drawn })
-    inserted-next seen h =
+    inserted-next : (seen : Option (ℕ × ℤ)) → pos next <ℤ pos 9223372036854775808 → IfSome seen (λ x. x ≡ (i, pos next +ℤ pos 1)) → IsChanged s (inserted i row) m old (record { changes = old.changes ++ change.Add (table_tab i) (pos next) (row_body row) ∷ []; seen = seen; drawn = old.drawn })
+    inserted-next seen less h =
         let c = change.Add (table_tab i) (pos next) (row_body row) in
         let e = written-push m old.changes c in
         record {
           pending = record {
-            good = good-push c (ap not (is-there i next l ∙ next-free (table_in s now i))) (text-put now (table_tab i) (pos next) (row_body row) (table-apart i)) (laid-inserted s now i row l p.good.current may);
+            good = good-push c (ap not (is-there i next l ∙ next-free (table_in s now i))) (text-put now (table_tab i) (pos next) (row_body row) (table-apart i)) (laid-inserted s now i row l p.good.current may) (low-put s now (table_tab i) (pos next) (row_body row) (low-place s (table_tab i) (pos next) less) p.good.stays_low);
             seen = subst (λ (x : BodyMap). IsSeen s x seen) (sym e) (seen-added seen h);
             drawn = subst (λ (x : BodyMap). AreDrawn x old.drawn) (sym e) (drawn-put now (table_tab i) (pos next) (row_body row) old.drawn (sequence-apart i) p.drawn);
           };
           tables = ap (tables_in s) e ∙ inserted-in s now i row l p.good.current may;
         }
 
-    pub is-inserted : (z : ℤ) (seen : Option (ℕ × ℤ)) (new : Pending) → z ≡ pos next → IfSome seen (λ x. x ≡ (i, z +ℤ pos 1)) → new ≡ record { changes = old.changes ++ change.Add (table_tab i) z (row_body row) ∷ []; seen = seen; drawn = old.drawn } → IsChanged s (inserted i row) m old new
-    is-inserted z seen new is h e =
-        let from = subst (λ (z : ℤ). IfSome seen (λ x. x ≡ (i, z +ℤ pos 1)) → IsChanged s (inserted i row) m old (record { changes = old.changes ++ change.Add (table_tab i) z (row_body row) ∷ []; seen = seen; drawn = old.drawn })) (sym is) (inserted-next seen) in
-        subst (λ (x : Pending). IsChanged s (inserted i row) m old x) (sym e) (from h)
+    pub is-inserted : (z : ℤ) (seen : Option (ℕ × ℤ)) (new : Pending) → z ≡ pos next → z <ℤ pos 9223372036854775808 → IfSome seen (λ x. x ≡ (i, z +ℤ pos 1)) → new ≡ record { changes = old.changes ++ change.Add (table_tab i) z (row_body row) ∷ []; seen = seen; drawn = old.drawn } → IsChanged s (inserted i row) m old new
+    is-inserted z seen new is less h e =
+        let from = subst (λ (z : ℤ). z <ℤ pos 9223372036854775808 → IfSome seen (λ x. x ≡ (i, z +ℤ pos 1)) → IsChanged s (inserted i row) m old (record { changes = old.changes ++ change.Add (table_tab i) z (row_body row) ∷ []; seen = seen; drawn = old.drawn })) (sym is) (inserted-next seen) in
+        subst (λ (x : Pending). IsChanged s (inserted i row) m old x) (sym e) (from less h)
 
     replaced-at : (n : ℕ) → has_number (table_in s now i) n ≡ true → IsChanged s (replaced i n row) m old (record { changes = old.changes ++ change.Put (table_tab i) (pos n) (row_body row) ∷ []; seen = None; drawn = old.drawn })
     replaced-at n there =
@@ -199,7 +202,7 @@ module _ (s : Schema) (m : BodyMap) (old : Pending) (p : IsPending s m old) wher
         let e = written-push m old.changes c in
         record {
           pending = record {
-            good = good-push c (is-there i n l ∙ there) (text-put now (table_tab i) (pos n) (row_body row) (table-apart i)) (laid-replaced s now i n row l p.good.current may);
+            good = good-push c (is-there i n l ∙ there) (text-put now (table_tab i) (pos n) (row_body row) (table-apart i)) (laid-replaced s now i n row l p.good.current may) (low-put s now (table_tab i) (pos n) (row_body row) (low-there s now (table_tab i) (pos n) p.good.stays_low (is-there i n l ∙ there)) p.good.stays_low);
             seen = tt;
             drawn = subst (λ (x : BodyMap). AreDrawn x old.drawn) (sym e) (drawn-put now (table_tab i) (pos n) (row_body row) old.drawn (sequence-apart i) p.drawn);
           };
@@ -217,7 +220,7 @@ module _ (s : Schema) (m : BodyMap) (old : Pending) (p : IsPending s m old) wher
       let e = written-push m old.changes c in
       record {
         pending = record {
-          good = good-push c (is-there i n l ∙ there) (text-taken now (table_tab i) (pos n) (table-apart i)) (laid-removed s now i n l p.good.current);
+          good = good-push c (is-there i n l ∙ there) (text-taken now (table_tab i) (pos n) (table-apart i)) (laid-removed s now i n l p.good.current) (low-taken s now (table_tab i) (pos n) p.good.stays_low);
           seen = tt;
           drawn = subst (λ (x : BodyMap). AreDrawn x old.drawn) (sym e) (drawn-taken now (table_tab i) (pos n) old.drawn (sequence-apart i) p.drawn);
         };
@@ -245,7 +248,7 @@ module _ (s : Schema) (m : BodyMap) (old : Pending) (p : IsPending s m old) wher
       let e = written-push m old.changes c in
       record {
         pending = record {
-          good = good-push c there (text-put now (pos 1) (pos q) v refl) (laid-drawn s now q l p.good.current fits low);
+          good = good-push c there (text-put now (pos 1) (pos q) v refl) (laid-drawn s now q l p.good.current fits low) (low-put s now (pos 1) (pos q) v (low-other s (pos q)) p.good.stays_low);
           seen = subst (λ (x : BodyMap). IsSeen s x old.seen) (sym e) (seen-stays q v old.seen p.seen);
           drawn = subst (λ (x : BodyMap). AreDrawn x new) (sym e) (drawn-on now q v z old.drawn new (ap Some (int-read z fits)) rises p.drawn);
         };

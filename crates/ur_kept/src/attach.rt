@@ -7,6 +7,7 @@ ghost use Rattle.ur_bodies.specs.Bodies.{IsOpened, body_at, bodies_of};
 ghost use Rattle.ur_laid.specs.Laid.{text_at, table_tab};
 ghost use Rattle.ur_kept.specs.Kept.{no_changes, IsGoodFor};
 ghost use Rattle.ur_bodies.specs.declared.bodies.BodyChange.TheVariants as change;
+ghost use Rattle.ur_kept.specs.Faults.{Finds, IsFaultyStore};
 ghost use Rattle.ur_kept.specs.Attach.{IsSame, IsAnswer, kept_after, Again, First, Reads, Starts, IsSoundStore, IsSoundTable, IsSoundSequence, IsSoundRows, ones};
 
 use crate::reading::table_tab;
@@ -32,6 +33,7 @@ pub(crate) fn attach_to<B: Bodies>(
     ensures answer { IfOk result (λ answer. IsAnswer schema.now answer (B.tells_at_first stock.old.bodies) (B.tells_at_first stock.new.bodies) (B.bodies stock.old.bodies) (B.bodies stock.new.bodies) kept.old kept.new) }
     ensures same { OnErr result (IsSame (B.tells_at_first stock.old.bodies) (B.tells_at_first stock.new.bodies) (B.bodies stock.old.bodies) (B.bodies stock.new.bodies) kept.old kept.new) }
     ensures opens { IsSome kept.new → B.opened stock.new.bodies ≡ true }
+    ensures found { Finds result stock.old.found stock.new.found (B.bodies stock.new.bodies) (IsFaultyStore schema.now) }
     ensures cause { HasCause KeeperEnd.Failed (B.faults stock.old.bodies + stock.old.found) (B.faults stock.new.bodies + stock.new.found) result }
 {
     stock.open()?;
@@ -61,6 +63,7 @@ fn attach_new<B: Bodies>(
     ensures same { OnErr result ((B.bodies stock.new.bodies ≡ B.bodies stock.old.bodies) × (kept.new ≡ None)) }
     ensures stays_open { B.opened stock.new.bodies ≡ true }
     ensures first { B.tells_at_first stock.new.bodies ≡ B.tells_at_first stock.old.bodies }
+    ensures found { Finds result stock.old.found stock.new.found (B.bodies stock.old.bodies) (IsFaultyStore schema.now) }
     ensures cause { HasCause KeeperEnd.Failed (B.faults stock.old.bodies + stock.old.found) (B.faults stock.new.bodies + stock.new.found) result }
 {
     let copy = schema.copy(alloc)?;
@@ -82,9 +85,11 @@ fn attach_again<B: Bodies>(
     schema: &Schema,
 ) -> Result<Attached, KeeperEnd>
     requires opened { B.opened stock.old.bodies ≡ true }
+    requires text { WhereTold (B.bodies stock.old.bodies) (λ m. text_at m ≡ Some (schema_text known.now)) }
     ensures answer { IfOk result (λ answer. Again known.now schema.now answer (B.bodies stock.old.bodies)) }
     ensures same { IsOpened (B.bodies stock.old.bodies) (B.bodies stock.new.bodies) (B.opened stock.new.bodies) }
     ensures first { B.tells_at_first stock.new.bodies ≡ B.tells_at_first stock.old.bodies }
+    ensures found { Finds result stock.old.found stock.new.found (B.bodies stock.old.bodies) (IsFaultyStore schema.now) }
     ensures cause { HasCause KeeperEnd.Failed (B.faults stock.old.bodies + stock.old.found) (B.faults stock.new.bodies + stock.new.found) result }
 {
     if !known.same(schema) {
@@ -111,6 +116,7 @@ fn attach_first<B: Bodies>(
     ensures same { OnErr result (B.bodies stock.new.bodies ≡ B.bodies stock.old.bodies) }
     ensures stays_open { B.opened stock.new.bodies ≡ true }
     ensures first { B.tells_at_first stock.new.bodies ≡ B.tells_at_first stock.old.bodies }
+    ensures found { Finds result stock.old.found stock.new.found (B.bodies stock.old.bodies) (IsFaultyStore schema.now) }
     ensures cause { HasCause KeeperEnd.Failed (B.faults stock.old.bodies + stock.old.found) (B.faults stock.new.bodies + stock.new.found) result }
 {
     let text = schema.text(alloc)?;
@@ -141,6 +147,7 @@ fn attach_text<B: Bodies>(
     ensures answer { IfOk result (λ answer. Reads schema.now answer (B.bodies stock.old.bodies)) }
     ensures same { IsOpened (B.bodies stock.old.bodies) (B.bodies stock.new.bodies) (B.opened stock.new.bodies) }
     ensures first { B.tells_at_first stock.new.bodies ≡ B.tells_at_first stock.old.bodies }
+    ensures found { Finds result stock.old.found stock.new.found (B.bodies stock.old.bodies) (IsFaultyStore schema.now) }
     ensures cause { HasCause KeeperEnd.Failed (B.faults stock.old.bodies + stock.old.found) (B.faults stock.new.bodies + stock.new.found) result }
 {
     if kept.as_slice() == text.as_slice() {
@@ -168,6 +175,7 @@ fn start<B: Bodies>(
     ensures same { OnErr result (B.bodies stock.new.bodies ≡ B.bodies stock.old.bodies) }
     ensures stays_open { B.opened stock.new.bodies ≡ true }
     ensures first { B.tells_at_first stock.new.bodies ≡ B.tells_at_first stock.old.bodies }
+    ensures found { Finds result stock.old.found stock.new.found (B.bodies stock.old.bodies) (IsFaultyStore schema.now) }
     ensures cause { HasCause KeeperEnd.Failed (B.faults stock.old.bodies + stock.old.found) (B.faults stock.new.bodies + stock.new.found) result }
 {
     let tables = schema.tables.len();
@@ -179,12 +187,13 @@ fn start<B: Bodies>(
     Ok(())
 }
 
-/// That the tables have no rows.
+/// That the tables have no rows. More tables than `u32` has numbers take memory that is not had.
 fn no_rows<B: Bodies>(stock: &mut Stock<B>, tables: usize) -> Result<(), KeeperEnd>
     requires opened { B.opened stock.old.bodies ≡ true }
     ensures empty { OnOk result (WhereTold (B.bodies stock.old.bodies) (λ m. (i : ℕ) → i < tables → bodies_of m (table_tab i) ≡ [])) }
     ensures same { IsOpened (B.bodies stock.old.bodies) (B.bodies stock.new.bodies) (B.opened stock.new.bodies) }
     ensures first { B.tells_at_first stock.new.bodies ≡ B.tells_at_first stock.old.bodies }
+    ensures found { Finds result stock.old.found stock.new.found (B.bodies stock.old.bodies) (λ m. ((i : ℕ) → i < tables → bodies_of m (table_tab i) ≡ []) → ⊥) }
     ensures cause { HasCause KeeperEnd.Failed (B.faults stock.old.bodies + stock.old.found) (B.faults stock.new.bodies + stock.new.found) result }
 {
     for place in 0..tables {
@@ -198,10 +207,11 @@ fn no_row<B: Bodies>(stock: &mut Stock<B>, place: usize) -> Result<(), KeeperEnd
     ensures empty { OnOk result (WhereTold (B.bodies stock.old.bodies) (λ m. bodies_of m (table_tab place) ≡ [])) }
     ensures same { IsOpened (B.bodies stock.old.bodies) (B.bodies stock.new.bodies) (B.opened stock.new.bodies) }
     ensures first { B.tells_at_first stock.new.bodies ≡ B.tells_at_first stock.old.bodies }
+    ensures found { Finds result stock.old.found stock.new.found (B.bodies stock.old.bodies) (λ m. bodies_of m (table_tab place) ≢ []) }
     ensures cause { HasCause KeeperEnd.Failed (B.faults stock.old.bodies + stock.old.found) (B.faults stock.new.bodies + stock.new.found) result }
 {
     let Ok(table) = u32::try_from(place) else {
-        return Err(stock.fault());
+        return Err(KeeperEnd::Memory);
     };
     let found = stock.read(table_tab(table))?;
     if found.is_empty() {
@@ -210,13 +220,14 @@ fn no_row<B: Bodies>(stock: &mut Stock<B>, place: usize) -> Result<(), KeeperEnd
     Err(stock.fault())
 }
 
-/// That the sequences have no numbers.
+/// That the sequences have no numbers. More of them than `u32` has numbers take memory that is not had.
 fn no_numbers<B: Bodies>(stock: &mut Stock<B>, sequences: usize) -> Result<(), KeeperEnd>
     requires opened { B.opened stock.old.bodies ≡ true }
     ensures empty { OnOk result (WhereTold (B.bodies stock.old.bodies) (λ m. (i : ℕ) → i < sequences → body_at m (pos 1) (pos i) ≡ None)) }
     ensures low { OnOk result (sequences ≤ 4294967296) }
     ensures same { IsOpened (B.bodies stock.old.bodies) (B.bodies stock.new.bodies) (B.opened stock.new.bodies) }
     ensures first { B.tells_at_first stock.new.bodies ≡ B.tells_at_first stock.old.bodies }
+    ensures found { Finds result stock.old.found stock.new.found (B.bodies stock.old.bodies) (λ m. ((i : ℕ) → i < sequences → body_at m (pos 1) (pos i) ≡ None) → ⊥) }
     ensures cause { HasCause KeeperEnd.Failed (B.faults stock.old.bodies + stock.old.found) (B.faults stock.new.bodies + stock.new.found) result }
 {
     for place in 0..sequences {
@@ -231,10 +242,11 @@ fn no_number<B: Bodies>(stock: &mut Stock<B>, place: usize) -> Result<(), Keeper
     ensures low { OnOk result (place < 4294967296) }
     ensures same { IsOpened (B.bodies stock.old.bodies) (B.bodies stock.new.bodies) (B.opened stock.new.bodies) }
     ensures first { B.tells_at_first stock.new.bodies ≡ B.tells_at_first stock.old.bodies }
+    ensures found { Finds result stock.old.found stock.new.found (B.bodies stock.old.bodies) (λ m. body_at m (pos 1) (pos place) ≢ None) }
     ensures cause { HasCause KeeperEnd.Failed (B.faults stock.old.bodies + stock.old.found) (B.faults stock.new.bodies + stock.new.found) result }
 {
     let Ok(sequence) = u32::try_from(place) else {
-        return Err(stock.fault());
+        return Err(KeeperEnd::Memory);
     };
     let found = stock.one(1, i64::from(sequence))?;
     match found {
@@ -257,7 +269,7 @@ fn first_changes(alloc: Global, text: Text, sequences: usize) -> Result<List<Bod
     Ok(changes)
 }
 
-/// That the store reads and has no fault.
+/// That the store reads and has no fault. More tables or sequences than `u32` has numbers take memory that is not had.
 fn check_store<B: Bodies>(
     alloc: Global,
     stock: &mut Stock<B>,
@@ -267,6 +279,7 @@ fn check_store<B: Bodies>(
     ensures sound { OnOk result (WhereTold (B.bodies stock.old.bodies) (IsSoundStore schema.now)) }
     ensures same { IsOpened (B.bodies stock.old.bodies) (B.bodies stock.new.bodies) (B.opened stock.new.bodies) }
     ensures first { B.tells_at_first stock.new.bodies ≡ B.tells_at_first stock.old.bodies }
+    ensures found { Finds result stock.old.found stock.new.found (B.bodies stock.old.bodies) (λ m. IsSoundStore schema.now m → ⊥) }
     ensures cause { HasCause KeeperEnd.Failed (B.faults stock.old.bodies + stock.old.found) (B.faults stock.new.bodies + stock.new.found) result }
 {
     check_tables(alloc, stock, schema)?;
@@ -283,6 +296,7 @@ fn check_tables<B: Bodies>(
     ensures sound { OnOk result (WhereTold (B.bodies stock.old.bodies) (λ m. (i : ℕ) → i < length schema.now.tables → IsSoundTable schema.now m i)) }
     ensures same { IsOpened (B.bodies stock.old.bodies) (B.bodies stock.new.bodies) (B.opened stock.new.bodies) }
     ensures first { B.tells_at_first stock.new.bodies ≡ B.tells_at_first stock.old.bodies }
+    ensures found { Finds result stock.old.found stock.new.found (B.bodies stock.old.bodies) (λ m. ((i : ℕ) → i < length schema.now.tables → IsSoundTable schema.now m i) → ⊥) }
     ensures cause { HasCause KeeperEnd.Failed (B.faults stock.old.bodies + stock.old.found) (B.faults stock.new.bodies + stock.new.found) result }
 {
     for place in 0..schema.tables.len() {
@@ -302,10 +316,11 @@ fn check_table<B: Bodies>(
     ensures sound { OnOk result (WhereTold (B.bodies stock.old.bodies) (λ m. IsSoundTable schema.now m place)) }
     ensures same { IsOpened (B.bodies stock.old.bodies) (B.bodies stock.new.bodies) (B.opened stock.new.bodies) }
     ensures first { B.tells_at_first stock.new.bodies ≡ B.tells_at_first stock.old.bodies }
+    ensures found { Finds result stock.old.found stock.new.found (B.bodies stock.old.bodies) (λ m. IsSoundTable schema.now m place → ⊥) }
     ensures cause { HasCause KeeperEnd.Failed (B.faults stock.old.bodies + stock.old.found) (B.faults stock.new.bodies + stock.new.found) result }
 {
     let Ok(table) = u32::try_from(place) else {
-        return Err(stock.fault());
+        return Err(KeeperEnd::Memory);
     };
     let found = rows_now(alloc, stock, schema, table, &[])?;
     let sound = are_sound(
@@ -321,7 +336,8 @@ fn check_table<B: Bodies>(
 
 /// Whether a table may have these rows.
 fn are_sound(alloc: Global, shape: &TableShape, rows: &[Numbered]) -> Result<bool, Memory>
-    ensures { IfOk result (λ sound. IsTrue sound → IsSoundRows shape.now rows.now) }
+    ensures sound { IfOk result (λ sound. IsTrue sound → IsSoundRows shape.now rows.now) }
+    ensures unsound { IfOk result (λ sound. IsSoundRows shape.now rows.now → IsTrue sound) }
 {
     if rows.len() > 1000000 {
         return Ok(false);
@@ -344,6 +360,7 @@ fn check_sequences<B: Bodies>(
     ensures sound { OnOk result (WhereTold (B.bodies stock.old.bodies) (λ m. (i : ℕ) → i < sequences → IsSoundSequence m i)) }
     ensures same { IsOpened (B.bodies stock.old.bodies) (B.bodies stock.new.bodies) (B.opened stock.new.bodies) }
     ensures first { B.tells_at_first stock.new.bodies ≡ B.tells_at_first stock.old.bodies }
+    ensures found { Finds result stock.old.found stock.new.found (B.bodies stock.old.bodies) (λ m. ((i : ℕ) → i < sequences → IsSoundSequence m i) → ⊥) }
     ensures cause { HasCause KeeperEnd.Failed (B.faults stock.old.bodies + stock.old.found) (B.faults stock.new.bodies + stock.new.found) result }
 {
     for place in 0..sequences {
@@ -361,10 +378,11 @@ fn check_sequence<B: Bodies>(
     ensures sound { OnOk result (WhereTold (B.bodies stock.old.bodies) (λ m. IsSoundSequence m place)) }
     ensures same { IsOpened (B.bodies stock.old.bodies) (B.bodies stock.new.bodies) (B.opened stock.new.bodies) }
     ensures first { B.tells_at_first stock.new.bodies ≡ B.tells_at_first stock.old.bodies }
+    ensures found { Finds result stock.old.found stock.new.found (B.bodies stock.old.bodies) (λ m. IsSoundSequence m place → ⊥) }
     ensures cause { HasCause KeeperEnd.Failed (B.faults stock.old.bodies + stock.old.found) (B.faults stock.new.bodies + stock.new.found) result }
 {
     let Ok(sequence) = u32::try_from(place) else {
-        return Err(stock.fault());
+        return Err(KeeperEnd::Memory);
     };
     let number = number_now(alloc, stock, sequence, &[])?;
     if number > 4611686018427387904 {

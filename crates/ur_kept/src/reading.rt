@@ -1,8 +1,11 @@
 //! The rows of a table from their bodies.
-ghost use Rattle.std.specs.Prelude.{◌≡◌, ◌+◌, pos, ◌&&◌, cond, Some, None, IfOk, OnOk, IfSome};
-ghost use Rattle.std.specs.Ordering.{int_eq};
+ghost use Rattle.std.specs.Prelude.{◌≡◌, ◌+◌, pos, ◌&&◌, cond, T, Some, None, IfOk, OnOk, IfSome, IfNone};
+ghost use Rattle.std.specs.Ordering.{int_cmp, int_eq};
+ghost use Rattle.std.specs.FinMap.{is_sorted};
+ghost use Rattle.ur_layout.specs.Rows.{kinds_in};
 ghost use Rattle.ur_bodies.specs.Bodies.{BodyMap, body_at, written_one, written};
 ghost use Rattle.ur_kept.specs.Kept.{AreRead};
+ghost use Rattle.ur_kept.specs.Faults.{AreReadable};
 
 use std::alloc::Global;
 use ur_base::{Bytes, List, Memory, Text};
@@ -23,7 +26,8 @@ pub(crate) fn read_rows(
     columns: &[(Text, ColumnKind)],
     entries: &[(i64, Bytes)],
 ) -> Result<Option<Found>, Memory>
-    ensures { IfOk result (λ found. IfSome found (λ f. AreRead columns.now entries.now f.rows f.next)) }
+    ensures read { IfOk result (λ found. IfSome found (λ f. AreRead columns.now entries.now f.rows f.next)) }
+    ensures unread { IfOk result (λ found. IfNone found (T (is_sorted int_cmp entries.now) → AreReadable (kinds_in columns.now) entries.now → ⊥)) }
 {
     let mut rows: List<Numbered> = List::new(alloc);
     let mut next: i64 = 0;

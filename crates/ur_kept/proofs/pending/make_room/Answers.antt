@@ -1,4 +1,4 @@
-use Rattle.std.proofs.Common.{◌≡◌, ◌++◌, ◌∷◌, [], pos, ap, List, ℤ, get_or, ◌∙◌}
+use Rattle.std.proofs.Common.{pos, ap, List, ℤ, get_or, ◌∙◌}
 use Rattle.ur_kept.proofs.Numbers.{none-pushed}
 use Rattle.ur_kept.proofs.pending.make_room.Goals as goal
 

@@ -1,4 +1,4 @@
-use Rattle.std.proofs.Common.{◌≡◌, ◌++◌, ◌∷◌, ◌≤◌, [], length, take, ap, sym, ◌∙◌, w64, arith}
+use Rattle.std.proofs.Common.{◌++◌, ◌∷◌, ◌≤◌, [], length, take, ap, sym, ◌∙◌, w64, arith}
 use Rattle.std.specs.Int.{cast_signed as to_z, cast_unsigned as of_z}
 use Rattle.std.proofs.lemmas.Int.{to_z-of_z}
 use Rattle.std.proofs.lemmas.List.{take_more, take_all}
