@@ -1,6 +1,6 @@
 -- Runs up to the next operation on tables do not see the tables.
-use Rattle.std.proofs.Common.{◌≡◌, ◌≢◌, ℕ, zero, suc, ◌-◌, ℤ, pos, List, [], ◌∷◌, ◌++◌, length, take, drop, Some, if◌then◌else◌, refl, sym, ap, subst}
-use Rattle.std.specs.Prelude.{nat_le, codes, slice_get, int_rem}
+use Rattle.std.proofs.Common.{◌≡◌, ◌≢◌, ℕ, zero, suc, ◌-◌, ℤ, pos, List, [], ◌∷◌, ◌++◌, take, drop, Some, if◌then◌else◌, refl, sym, ap, subst}
+use Rattle.std.specs.Prelude.{nat_le, slice_get, int_rem}
 use Rattle.std.specs.Int.{w64, int_wrapping_div}
 use Rattle.std.specs.Ordering.{int_eq}
 use Rattle.ur_values.specs.declared.value.Value.{Value}
@@ -12,7 +12,7 @@ use Rattle.ur_values.specs.Size.{is_small}
 use Rattle.ur_terms.specs.declared.term.Op.{Op}
 use Rattle.ur_terms.specs.declared.term.Op.TheVariants as op
 use Rattle.ur_terms.specs.declared.term.Function.{Function}
-use Rattle.ur_terms.specs.State.{State, Outcome, Done, Spent, Stuck, charge, built, error_text, with_cookie}
+use Rattle.ur_terms.specs.State.{State, Outcome, Done, Spent, Stuck, charge, built, with_cookie}
 use Rattle.ur_terms.specs.Values.{as_int, as_bool, as_text, as_fields, as_items, all_nodes, shown, fields_of, field_at, fields_together}
 use Rattle.ur_terms.specs.Ops.{given, divided, optional_text, with_unit}
 use Rattle.ur_terms.specs.Run.{joined, run, outcome_of}

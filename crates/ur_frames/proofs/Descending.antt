@@ -1,20 +1,18 @@
 -- Steps that enter a part under a new frame.
-use Rattle.std.proofs.Common.{◌≡◌, ℕ, suc, ◌+◌, ◌-◌, ◌<◌, ◌≤◌, Bool, true, false, if◌then◌else◌, List, [], ◌∷◌, ◌++◌, length, drop, Option, Some, None, refl, sym, ap, subst, ◌∙◌, arith, Bor}
-use Rattle.std.specs.Prelude.{slice_get, option_map, option_and_then}
+use Rattle.std.proofs.Common.{◌≡◌, ℕ, suc, ◌+◌, ◌-◌, ◌≤◌, Bool, true, false, if◌then◌else◌, List, [], ◌∷◌, ◌++◌, length, drop, Option, Some, None, refl, sym, ap, subst, ◌∙◌, arith}
+use Rattle.std.specs.Prelude.{slice_get, option_and_then}
 use Rattle.std.proofs.Math.Seq.{drop-append_seam}
 use Rattle.ur_values.specs.declared.value.Value.{Value}
 use Rattle.ur_values.specs.Event.{Event}
 use Rattle.ur_values.specs.Store.{Store}
-use Rattle.ur_terms.specs.declared.term.Op.{Op}
 use Rattle.ur_terms.specs.declared.term.Term.{Term, out-Term}
-use Rattle.ur_terms.specs.declared.term.Term.TheOpen as o
 use Rattle.ur_terms.specs.declared.term.Term.TheVariants as t
 use Rattle.ur_terms.specs.declared.term.Function.{Function}
-use Rattle.ur_terms.specs.State.{State, Outcome, Done, Error, Spent, Stuck, after}
+use Rattle.ur_terms.specs.State.{State, Done, Spent, Stuck, after}
 use Rattle.ur_terms.specs.Values.{as_bool}
 use Rattle.ur_terms.specs.Ops.{given}
-use Rattle.ur_terms.specs.Run.{Does, eval, eval_list, outcome_of, choose, joined}
-use Rattle.ur_terms.specs.Cost.{after_cost, given_cost, choice_cost}
+use Rattle.ur_terms.specs.Run.{Does, eval, eval_list, outcome_of, joined}
+use Rattle.ur_terms.specs.Cost.{after_cost, given_cost}
 use Rattle.ur_frames.specs.declared.frame.Frame.{Frame}
 use Rattle.ur_frames.specs.declared.frame.Frame.TheVariants as frame
 use Rattle.ur_frames.specs.declared.frame.Machine.{Machine}
@@ -22,14 +20,14 @@ use Rattle.ur_frames.specs.declared.control.Control.TheVariants as control
 use Rattle.ur_frames.specs.declared.control.Pause.TheVariants as pause
 use Rattle.ur_frames.specs.declared.control.Next.{Next}
 use Rattle.ur_frames.specs.declared.control.Next.TheVariants as next
-use Rattle.ur_frames.specs.Rest.{Open, args_of, part, standing, outer, resume, state_of, applied, args_from, items_from, goes_on, frame_goes_on}
-use Rattle.ur_frames.specs.Work.{term_cost, frame_cost, going_cost, applied_cost, args_cost, items_cost}
+use Rattle.ur_frames.specs.Rest.{args_of, part, standing, outer, state_of, applied, goes_on, frame_goes_on}
+use Rattle.ur_frames.specs.Work.{term_cost, frame_cost, going_cost}
 use Rattle.ur_frames.specs.Plays.{Plays, until, no_store}
-use Rattle.ur_frames.specs.Steps.{Doing, Costs, Leads, IsSafe, Descends, with_args, with_args_cost, applying, applying_cost, performing, no_cost, calling, calling_cost, binding, binding_cost, going, going_costs, with_items, with_items_cost}
+use Rattle.ur_frames.specs.Steps.{Doing, Costs, Leads, IsSafe, Descends, with_args, with_args_cost, applying, applying_cost, calling, calling_cost, binding, binding_cost, going, going_costs, with_items, with_items_cost}
 use Rattle.ur_terms.proofs.Equations.{after_same}
 use Rattle.ur_terms.proofs.Cost.{after_cost_same}
-use Rattle.ur_frames.proofs.Forms.{after_done, one_step, args_next, args_next_cost, args_end, args_end_cost, items_next, items_end}
-use Rattle.ur_frames.proofs.Leading.{gives, spends, enters, enters_tail, IsTail, let_tail, side_tail, branch_tail, wants_memory, transfers, not_stuck, same_safe, call_enters}
+use Rattle.ur_frames.proofs.Forms.{args_next, args_next_cost, args_end, args_end_cost, items_next, items_end}
+use Rattle.ur_frames.proofs.Leading.{gives, spends, enters, enters_tail, IsTail, let_tail, side_tail, wants_memory, transfers, not_stuck, same_safe, call_enters}
 
 module _ (fs : List Function) where
   -- a part is entered under a frame, from a machine whose variables may have changed before

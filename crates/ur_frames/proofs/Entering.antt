@@ -1,23 +1,21 @@
 -- How terms are entered, branches picked and lists begun.
-use Rattle.std.proofs.Common.{◌≡◌, ℕ, suc, ◌+◌, ◌-◌, ◌<◌, ◌≤◌, Bool, true, false, if◌then◌else◌, List, [], ◌∷◌, ◌++◌, length, drop, Option, Some, None, refl, sym, ap, subst, ◌∙◌, arith, Bor}
+use Rattle.std.proofs.Common.{◌≡◌, ℕ, suc, ◌+◌, ◌-◌, ◌≤◌, List, [], ◌∷◌, ◌++◌, length, drop, Some, None, refl, sym, ap, subst, ◌∙◌, arith}
 use Rattle.std.specs.Prelude.{slice_get, option_map, option_and_then}
 use Rattle.std.proofs.Math.Seq.{drop-append_seam}
-use Rattle.ur_values.specs.declared.value.Value.{Value, out-Value}
+use Rattle.ur_values.specs.declared.value.Value.{Value}
 use Rattle.ur_values.specs.declared.value.Value.TheVariants as v
-use Rattle.ur_values.specs.Event.{Event}
-use Rattle.ur_values.specs.Store.{Store}
 use Rattle.ur_terms.specs.declared.term.Op.{Op}
 use Rattle.ur_terms.specs.declared.term.Branch.{Branch}
 use Rattle.ur_terms.specs.declared.term.Term.{Term, out-Term}
 use Rattle.ur_terms.specs.declared.term.Term.TheOpen as o
 use Rattle.ur_terms.specs.declared.term.Term.TheVariants as t
 use Rattle.ur_terms.specs.declared.term.Function.{Function}
-use Rattle.ur_terms.specs.State.{State, Outcome, Done, Error, Spent, Stuck, after, charge}
+use Rattle.ur_terms.specs.State.{State, Outcome, Done, Error, Spent, Stuck, after}
 use Rattle.ur_terms.specs.Values.{as_items, open_items}
 use Rattle.ur_terms.specs.Ops.{given}
 use Rattle.ur_terms.specs.Run.{Does, Calls, eval, eval_list, first_branch, outcome_of}
-use Rattle.ur_terms.specs.Cost.{CallsCost, after_cost, given_cost, charge_cost, cost, cost_list, first_cost, cost_of}
-use Rattle.ur_terms.proofs.Equations.{after_same, eval-Make, eval-Call, eval-Let}
+use Rattle.ur_terms.specs.Cost.{CallsCost, after_cost, given_cost, cost, cost_list, first_cost, cost_of}
+use Rattle.ur_terms.proofs.Equations.{eval-Make, eval-Call, eval-Let}
 use Rattle.ur_terms.proofs.Cost.{cost-Make, cost-Call, cost-Let}
 use Rattle.ur_frames.specs.declared.frame.Frame.{Frame}
 use Rattle.ur_frames.specs.declared.frame.Frame.TheVariants as frame
@@ -25,10 +23,10 @@ use Rattle.ur_frames.specs.declared.frame.Machine.{Machine}
 use Rattle.ur_frames.specs.declared.control.Control.TheVariants as control
 use Rattle.ur_frames.specs.declared.control.Next.{Next}
 use Rattle.ur_frames.specs.declared.control.Next.TheVariants as next
-use Rattle.ur_frames.specs.Rest.{Open, args_of, part, standing, outer, resume, state_of, applied, args_from, items_from, goes_on, frame_goes_on}
+use Rattle.ur_frames.specs.Rest.{Open, args_of, part, standing, outer, state_of, applied, args_from, items_from, goes_on, frame_goes_on}
 use Rattle.ur_frames.specs.Work.{term_cost, frame_cost, going_cost, applied_cost, args_cost, items_cost}
-use Rattle.ur_frames.specs.Plays.{Plays, until, no_store}
-use Rattle.ur_frames.specs.Steps.{Doing, Costs, Leads, IsSafe, Descends, entering, entering_cost, with_args, with_args_cost, going, going_costs, with_items, with_items_cost}
+use Rattle.ur_frames.specs.Plays.{until, no_store}
+use Rattle.ur_frames.specs.Steps.{Leads, IsSafe, Descends, entering, entering_cost, with_args, with_args_cost, going, going_costs, with_items, with_items_cost}
 use Rattle.ur_frames.proofs.Forms.{if_goes, if_costs, case_goes, case_costs, each_goes, each_costs}
 use Rattle.ur_frames.proofs.Leading.{gives, branch_tail, transfers, not_stuck, same_safe}
 use Rattle.ur_frames.proofs.Descending.{descends, descends_tail}

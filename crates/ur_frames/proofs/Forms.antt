@@ -1,20 +1,18 @@
 -- How each form of term is entered.
-use Rattle.std.proofs.Common.{◌≡◌, ℕ, zero, suc, ◌+◌, ◌-◌, ◌<◌, ◌≤◌, List, [], ◌∷◌, ◌++◌, length, drop, Option, Some, None, refl, sym, ap, subst, ◌∙◌, arith, Bor, length-append}
+use Rattle.std.proofs.Common.{◌≡◌, ℕ, zero, suc, ◌+◌, ◌-◌, ◌≤◌, List, [], ◌∷◌, ◌++◌, length, drop, Some, None, refl, sym, ap, ◌∙◌, arith, length-append}
 use Rattle.std.proofs.lemmas.List.{append-nil}
-use Rattle.std.proofs.Math.Seq.{append_snoc, drop-append_seam}
+use Rattle.std.proofs.Math.Seq.{append_snoc}
 use Rattle.std.specs.Prelude.{slice_get}
 use Rattle.ur_values.specs.declared.value.Value.{Value}
-use Rattle.ur_terms.specs.declared.term.Op.{Op}
 use Rattle.ur_terms.specs.declared.term.Branch.{Branch}
-use Rattle.ur_terms.specs.declared.term.Term.{Term, out-Term}
-use Rattle.ur_terms.specs.declared.term.Term.TheOpen as o
+use Rattle.ur_terms.specs.declared.term.Term.{Term}
 use Rattle.ur_terms.specs.declared.term.Term.TheVariants as t
 use Rattle.ur_terms.specs.declared.term.Function.{Function}
 use Rattle.ur_terms.specs.State.{State, Outcome, Done, Error, Spent, Stuck, after}
 use Rattle.ur_terms.specs.Ops.{given}
-use Rattle.ur_terms.specs.Run.{Does, Calls, eval, eval_list, for_each, joined, outcome_of}
-use Rattle.ur_terms.specs.Cost.{after_cost, given_cost, cost, cost_list, cost_of}
-use Rattle.ur_terms.proofs.Equations.{after_same, after_after, eval-Make, eval-If, eval-Case, eval-Each}
+use Rattle.ur_terms.specs.Run.{Does, eval, eval_list, for_each, joined, outcome_of}
+use Rattle.ur_terms.specs.Cost.{after_cost, given_cost, cost_list, cost_of}
+use Rattle.ur_terms.proofs.Equations.{after_same, after_after, eval-If, eval-Case, eval-Each}
 use Rattle.ur_terms.proofs.Cost.{after_cost_same, cost-If, cost-Case, cost-Each}
 use Rattle.ur_frames.specs.declared.frame.Frame.TheVariants as frame
 use Rattle.ur_frames.specs.Rest.{Open, args_of, applied, args_from, items_from, goes_on, frame_goes_on}

@@ -1,26 +1,25 @@
 -- How a value is given to the nearest frame.
-use Rattle.std.proofs.Common.{◌≡◌, ℕ, suc, ◌+◌, ◌-◌, ◌<◌, ◌≤◌, List, [], ◌∷◌, Option, Some, None, refl, sym, ap, subst, ◌∙◌, arith, Bor}
+use Rattle.std.proofs.Common.{◌≡◌, ℕ, suc, ◌+◌, ◌-◌, ◌<◌, ◌≤◌, List, [], ◌∷◌, Some, None, sym, ap, subst, ◌∙◌, arith, Bor}
 use Rattle.ur_values.specs.declared.value.Value.{Value}
 use Rattle.ur_values.specs.Event.{Event}
 use Rattle.ur_values.specs.Store.{Store}
 use Rattle.ur_terms.specs.declared.term.Term.{Term, out-Term}
 use Rattle.ur_terms.specs.declared.term.Term.TheVariants as t
 use Rattle.ur_terms.specs.declared.term.Function.{Function}
-use Rattle.ur_terms.specs.State.{State, Outcome, Done, Stuck}
+use Rattle.ur_terms.specs.State.{State, Outcome, Done}
 use Rattle.ur_terms.specs.Ops.{given}
 use Rattle.ur_terms.specs.Run.{Does, outcome_of}
 use Rattle.ur_terms.specs.Cost.{after_cost, given_cost}
 use Rattle.ur_frames.specs.declared.frame.Frame.{Frame}
 use Rattle.ur_frames.specs.declared.frame.Machine.{Machine}
-use Rattle.ur_frames.specs.declared.control.Control.{Control}
 use Rattle.ur_frames.specs.declared.control.Control.TheVariants as control
 use Rattle.ur_frames.specs.declared.control.Pause.TheVariants as pause
 use Rattle.ur_frames.specs.declared.control.Next.{Next}
 use Rattle.ur_frames.specs.declared.control.Next.TheVariants as next
 use Rattle.ur_frames.specs.Rest.{standing, outer, resume, state_of, leaves_or, goes_on, frame_goes_on}
 use Rattle.ur_frames.specs.Work.{term_cost, total, going_cost, frame_cost, frames_cost}
-use Rattle.ur_frames.specs.Plays.{Plays, until, no_store}
-use Rattle.ur_frames.specs.Steps.{Doing, Costs, Leads, Steps, IsSafe, IsLess, IsAbove, below, going, going_costs, resuming, resuming_cost, giving, entering, entering_cost, left, work, comes_to, next_work}
+use Rattle.ur_frames.specs.Plays.{until, no_store}
+use Rattle.ur_frames.specs.Steps.{Leads, Steps, IsSafe, IsLess, IsAbove, below, going, going_costs, resuming, resuming_cost, giving, entering, entering_cost, comes_to, next_work}
 use Rattle.ur_frames.proofs.Leading.{IsTail, not_stuck, same_safe, transfers}
 
 module _ (fs : List Function) where

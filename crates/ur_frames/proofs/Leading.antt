@@ -3,7 +3,7 @@ use Rattle.std.specs.Prelude.{nat_le, slice_get, option_map}
 use Rattle.std.proofs.lemmas.Bool.{le-leb}
 use Rattle.std.specs.Prelude.{Result, Ok, Err, OnOk}
 use Rattle.std.specs.Result.{is_err}
-use Rattle.std.proofs.Common.{◌≡◌, ℕ, zero, suc, Bool, true, false, if◌then◌else◌, ◌+◌, ◌-◌, ◌<◌, ◌≤◌, List, [], ◌∷◌, ◌++◌, Option, Some, None, refl, sym, ap, subst, ◌∙◌, arith, Bor}
+use Rattle.std.proofs.Common.{◌≡◌, ℕ, zero, suc, Bool, true, false, if◌then◌else◌, ◌+◌, ◌-◌, ◌<◌, ◌≤◌, List, [], ◌∷◌, Option, Some, None, refl, sym, ap, subst, ◌∙◌, arith, Bor}
 use Rattle.ur_values.specs.declared.value.Value.{Value}
 use Rattle.ur_values.specs.Event.{Event}
 use Rattle.ur_values.specs.Store.{Store}
@@ -22,7 +22,6 @@ use Rattle.ur_frames.specs.declared.frame.Frame.{Frame}
 use Rattle.ur_frames.specs.declared.frame.Frame.TheVariants as frame
 use Rattle.ur_frames.specs.declared.frame.Machine.{Machine}
 use Rattle.ur_frames.specs.declared.control.Performed.TheVariants as performed
-use Rattle.ur_frames.specs.declared.control.Control.{Control}
 use Rattle.ur_frames.specs.declared.control.Control.TheVariants as control
 use Rattle.ur_frames.specs.declared.control.Pause.TheVariants as pause
 use Rattle.ur_frames.specs.declared.control.Next.{Next}
@@ -30,7 +29,7 @@ use Rattle.ur_frames.specs.declared.control.Next.TheVariants as next
 use Rattle.ur_frames.specs.Rest.{Open, standing, outer, resume, state_of, leaves_or, frame_goes_on}
 use Rattle.ur_frames.specs.Work.{term_cost, total, going_cost, frame_cost, frames_cost}
 use Rattle.ur_frames.specs.Plays.{Plays, until, no_store, Performs}
-use Rattle.ur_frames.specs.Steps.{Doing, Costs, Leads, IsSafe, performing, no_cost, calling, calling_cost, begins, begin_cost, left, work, comes_to, next_work}
+use Rattle.ur_frames.specs.Steps.{Doing, Costs, Leads, IsSafe, performing, no_cost, calling, calling_cost, comes_to, next_work}
 
 at_most : (a b n : ℕ) → b ≡ a → 0 + a < suc (n + b)
 at_most a b n e = omega arith

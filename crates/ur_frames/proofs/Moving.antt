@@ -1,22 +1,20 @@
 -- A variable that nothing reads any more may hold anything.
 use Rattle.std.proofs.lemmas.List.{length-drop}
-use Rattle.std.proofs.Common.{◌≡◌, ℕ, zero, suc, ◌+◌, ◌-◌, ◌<◌, List, [], ◌∷◌, ◌++◌, length, drop, Bool, true, Option, Some, None, if◌then◌else◌, refl, sym, ap, subst, ◌∙◌, arith, length-append}
+use Rattle.std.proofs.Common.{◌≡◌, ℕ, zero, suc, ◌+◌, ◌<◌, List, [], ◌∷◌, ◌++◌, length, drop, true, Option, Some, None, refl, sym, ap, subst, ◌∙◌, arith, length-append}
 use Rattle.std.specs.Prelude.{slice_get, slice_set}
 use Rattle.ur_values.specs.declared.value.Value.{Value}
-use Rattle.ur_values.specs.Event.{Event}
-use Rattle.ur_values.specs.Store.{Store}
 use Rattle.ur_terms.specs.declared.term.Term.{Term, out-Term}
 use Rattle.ur_terms.specs.declared.term.Term.TheOpen as o
 use Rattle.ur_terms.specs.declared.term.Term.TheVariants as t
 use Rattle.ur_terms.specs.declared.term.Function.{Function}
-use Rattle.ur_terms.specs.State.{State, Outcome, Done, Error, Spent, Stuck, after}
-use Rattle.ur_terms.specs.Values.{as_bool, as_items}
+use Rattle.ur_terms.specs.State.{State, Outcome, Done, after}
+use Rattle.ur_terms.specs.Values.{as_items}
 use Rattle.ur_terms.specs.Ops.{given}
-use Rattle.ur_terms.specs.Run.{Does, eval, eval_list, for_each, joined, choose, outcome_of}
-use Rattle.ur_terms.specs.Cost.{after_cost, given_cost, choice_cost, cost, cost_list, cost_of}
+use Rattle.ur_terms.specs.Run.{Does, eval, eval_list, joined, choose, outcome_of}
+use Rattle.ur_terms.specs.Cost.{after_cost, given_cost, choice_cost, cost_list, cost_of}
 use Rattle.ur_terms.proofs.Equations.{after_same, given_same}
 use Rattle.ur_terms.proofs.Cost.{after_cost_same, given_cost_same}
-use Rattle.ur_unread.specs.Unread.{under, Unread, AreUnread, AreBranchesUnread, SameBut, there, further}
+use Rattle.ur_unread.specs.Unread.{under, AreUnread, SameBut, there, further}
 use Rattle.ur_unread.proofs.Bound.{bound_same}
 use Rattle.ur_unread.proofs.Alike.{after_long, after_cost_long, eval_alike, cost_alike, each_alike, each_cost_alike}
 use Rattle.ur_unread.proofs.Lists.{list_long, list_alike, first_alike, list_cost_alike, first_cost_alike}
@@ -24,13 +22,11 @@ use Rattle.ur_frames.specs.declared.frame.Frame.{Frame}
 use Rattle.ur_frames.specs.declared.frame.Frame.TheVariants as frame
 use Rattle.ur_frames.specs.declared.frame.Machine.{Machine}
 use Rattle.ur_frames.specs.declared.control.Control.TheVariants as control
-use Rattle.ur_frames.specs.declared.control.Next.{Next}
 use Rattle.ur_frames.specs.declared.control.Next.TheVariants as next
-use Rattle.ur_frames.specs.Rest.{Open, args_of, standing, outer, resume, state_of, applied, args_from, items_from, goes_on, frame_goes_on}
-use Rattle.ur_frames.specs.Work.{term_cost, applied_cost, args_cost, items_cost, going_cost, frame_cost, frames_cost}
-use Rattle.ur_frames.specs.Plays.{Plays}
+use Rattle.ur_frames.specs.Rest.{Open, standing, resume, state_of, applied, goes_on}
+use Rattle.ur_frames.specs.Work.{term_cost, applied_cost, going_cost, frame_cost, frames_cost}
 use Rattle.ur_frames.specs.Steps.{Leads, entering, entering_cost}
-use Rattle.ur_frames.specs.Over.{Outside, LeavesUnread, IsThere, IsLastItem, IsOver}
+use Rattle.ur_frames.specs.Over.{Outside, LeavesUnread, IsThere, IsOver}
 
 one_more_of : {A : Type 0} (xs : List A) (x : A) → length (xs ++ x ∷ []) ≡ suc (length xs)
 one_more_of xs x = omega (arith, length-append xs (x ∷ []))

@@ -20,7 +20,7 @@ use Rattle.ur_frames.specs.declared.control.Pause.TheVariants as pause
 use Rattle.ur_frames.specs.Rest.{resume, state_of}
 use Rattle.ur_frames.specs.Plays.{Plays, IsLocal, nothing, until, held, no_store}
 use Rattle.ur_frames.specs.Steps.{ComesTo}
-use Rattle.ur_frames.specs.Pure.{IsPure, ArePure, BranchesArePure, AllPure}
+use Rattle.ur_frames.specs.Pure.{IsPure, ArePure, BranchesArePure}
 use Rattle.ur_frames.proofs.Leading.{stays_stuck}
 use Rattle.ur_frames.proofs.Playing.{until_plays}
 

@@ -1,5 +1,5 @@
 -- What is left of a run on related states comes to the same, where operations and calls do.
-use Rattle.std.proofs.Common.{List, [], ◌∷◌, ◌++◌, length, drop, Option, Some, None, ℕ}
+use Rattle.std.proofs.Common.{List, [], ◌∷◌, ◌++◌, length, drop, Option, ℕ}
 use Rattle.ur_values.specs.declared.value.Value.{Value}
 use Rattle.ur_values.specs.Event.{Event}
 use Rattle.ur_terms.specs.declared.term.Op.{Op}
@@ -9,7 +9,7 @@ use Rattle.ur_terms.specs.declared.term.Term.{Term, out-Term}
 use Rattle.ur_terms.specs.declared.term.Term.TheOpen as o
 use Rattle.ur_terms.specs.State.{State, Outcome, charge}
 use Rattle.ur_terms.specs.Values.{as_bool, as_items}
-use Rattle.ur_terms.specs.Run.{Does, eval, eval_list, first_branch, for_each, joined, matched, outcome_of}
+use Rattle.ur_terms.specs.Run.{Does, eval, eval_list, first_branch, joined, matched, outcome_of}
 use Rattle.ur_terms.proofs.Alike.{Both, both_done, both_stuck, both_after, both_given, both_if, both_match, both_each, both_eval}
 use Rattle.ur_frames.specs.declared.frame.Frame.{Frame}
 use Rattle.ur_frames.specs.declared.frame.Frame.TheVariants as frame

@@ -1,22 +1,20 @@
 -- How a call begins.
-use Rattle.std.proofs.Common.{◌≡◌, ℕ, List, [], ◌∷◌, Option, Some, None, refl, sym, ap, ◌∙◌, Bor}
+use Rattle.std.proofs.Common.{◌≡◌, ℕ, List, [], ◌∷◌, Some, None, sym, ap, ◌∙◌, Bor}
 use Rattle.std.specs.Prelude.{slice_get, option_map}
 use Rattle.ur_values.specs.declared.value.Value.{Value}
 use Rattle.ur_values.specs.Event.{Event}
 use Rattle.ur_values.specs.Store.{Store}
 use Rattle.ur_terms.specs.declared.term.Term.{Term}
 use Rattle.ur_terms.specs.declared.term.Function.{Function}
-use Rattle.ur_terms.specs.State.{State, Outcome, Stuck}
+use Rattle.ur_terms.specs.State.{State, Stuck}
 use Rattle.ur_terms.specs.Ops.{given}
 use Rattle.ur_terms.specs.Run.{Does, eval, run, outcome_of}
 use Rattle.ur_terms.proofs.Bound.{outcome_body}
 use Rattle.ur_frames.specs.declared.frame.Frame.{Frame}
 use Rattle.ur_frames.specs.declared.frame.Frame.TheVariants as frame
 use Rattle.ur_frames.specs.declared.frame.Machine.{Machine}
-use Rattle.ur_frames.specs.declared.control.Control.TheVariants as control
 use Rattle.ur_frames.specs.Rest.{standing, resume, state_of}
-use Rattle.ur_frames.specs.Plays.{Plays, until, no_store}
-use Rattle.ur_frames.specs.Steps.{left, Stands}
+use Rattle.ur_frames.specs.Plays.{Plays, until}
 use Rattle.ur_frames.proofs.Forms.{after_done}
 
 module _ (fs : List Function) (f : ℕ) (function : Function) (known : slice_get fs f ≡ Some function) where

@@ -1,14 +1,13 @@
 -- Where a machine stands in the code, and what is left of its run.
-use Rattle.std.specs.Prelude.{◌≡◌, ℕ, suc, ◌+◌, Bool, true, false, List, [], ◌∷◌, ◌++◌, length, drop, Option, Some, None, slice_get, option_map, option_and_then}
+use Rattle.std.specs.Prelude.{true, false, List, [], ◌∷◌, ◌++◌, length, drop, Option, Some, None, slice_get, option_map, option_and_then}
 use Rattle.ur_values.specs.declared.value.Value.{Value}
 use Rattle.ur_values.specs.Event.{Event}
 use Rattle.ur_values.specs.Store.{Store}
-use Rattle.ur_terms.specs.declared.term.Op.{Op}
 use Rattle.ur_terms.specs.declared.term.Branch.{Branch}
 use Rattle.ur_terms.specs.declared.term.Term.{Term, Term-F, out-Term}
 use Rattle.ur_terms.specs.declared.term.Term.TheOpen as o
 use Rattle.ur_terms.specs.declared.term.Function.{Function}
-use Rattle.ur_terms.specs.State.{State, Outcome, Done, Error, Spent, Stuck, after, charge}
+use Rattle.ur_terms.specs.State.{State, Outcome, Done, Stuck, after, charge}
 use Rattle.ur_terms.specs.Values.{as_items}
 use Rattle.ur_terms.specs.Ops.{given}
 use Rattle.ur_terms.specs.Run.{Does, Calls, eval, eval_list, first_branch, for_each, joined, choose, outcome_of}

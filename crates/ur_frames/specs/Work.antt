@@ -1,5 +1,5 @@
 -- How many steps what is left of a run takes at most: the measure of a run.
-use Rattle.std.specs.Prelude.{ℕ, suc, ◌+◌, List, [], ◌∷◌, ◌++◌, length, drop, Option, Some, None}
+use Rattle.std.specs.Prelude.{ℕ, suc, ◌+◌, List, [], ◌∷◌, ◌++◌, length, drop, Option}
 use Rattle.ur_values.specs.declared.value.Value.{Value}
 use Rattle.ur_terms.specs.declared.term.Term.{Term, out-Term}
 use Rattle.ur_terms.specs.declared.term.Term.TheOpen as o

@@ -1,5 +1,5 @@
 //! A stack, which contracts see as the list of its items, the nearest first.
-ghost use Rattle.std.specs.Prelude.{◌≡◌, ◌≤◌, [], ◌∷◌, ◌++◌, length, drop, reverse, slice_get, slice_set, Some, ◌<◌, MatchOption, OnOk, OnErr};
+ghost use Rattle.std.specs.Prelude.{◌≡◌, ◌≤◌, List, [], ◌∷◌, ◌++◌, length, drop, reverse, slice_get, slice_set, Some, ◌<◌, MatchOption, OnOk, OnErr};
 ghost use Rattle.std.specs.Option.{option_copied};
 
 use std::alloc::Global;
@@ -74,14 +74,16 @@ impl<T> Stack<T> {
 impl<T: Drop> Stack<T> {
     pub fn push(&mut self, item: T) -> Result<(), Memory>
         ensures ok { OnOk result (self.new ≡ item ∷ self.old) }
+        ensures err { OnErr result (self.new ≡ self.old) }
     {
         self.items.push(item)?;
         Ok(())
     }
 
-    /// Puts the items on top, the first of them nearest.
+    /// Puts the items on top, the first of them nearest. Without memory some are left out, the first of them among these.
     pub fn push_all(&mut self, items: List<T>) -> Result<(), Memory>
         ensures ok { OnOk result (self.new ≡ items ++ self.old) }
+        ensures err { OnErr result ((left : List T) × (left ++ self.new ≡ items ++ self.old)) }
     {
         let mut items = items;
         while let Some(item) = items.pop() {

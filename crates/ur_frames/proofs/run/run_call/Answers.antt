@@ -1,4 +1,4 @@
-use Rattle.std.proofs.Common.{◌≡◌, List, [], ◌∷◌, ◌++◌, refl, sym, ap, subst, ◌∙◌}
+use Rattle.std.proofs.Common.{◌≡◌, [], ◌∷◌, ◌++◌, sym, ap, subst, ◌∙◌}
 use Rattle.std.proofs.lemmas.List.{append-nil}
 use Rattle.ur_terms.specs.Run.{outcome_of}
 use Rattle.ur_frames.specs.declared.frame.Frame.TheVariants as frame
@@ -7,7 +7,7 @@ use Rattle.ur_frames.specs.Plays.{until, no_store, held}
 use Rattle.ur_frames.specs.Steps.{ends}
 use Rattle.ur_frames.proofs.Leading.{ok_of}
 use Rattle.ur_frames.proofs.Playing.{until_plays}
-use Rattle.ur_frames.proofs.Starting.{started, start_stands, start_known}
+use Rattle.ur_frames.proofs.Starting.{started, start_known}
 use Rattle.ur_frames.proofs.run.run_call.Goals as goal
 
 pub unreachable-requires : goal.unreachable-requires

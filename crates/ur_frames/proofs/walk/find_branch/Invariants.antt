@@ -1,4 +1,4 @@
-use Rattle.std.proofs.Common.{◌≡◌, ◌≤◌, length}
+use Rattle.std.proofs.Common.{◌≡◌}
 use Rattle.ur_frames.proofs.Branches.{Skips}
 use Rattle.ur_frames.proofs.walk.find_branch.Given as goal
 

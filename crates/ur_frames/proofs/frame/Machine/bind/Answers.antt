@@ -1,4 +1,4 @@
-use Rattle.std.proofs.Common.{◌≡◌, ◌++◌, sym, ap, subst, length}
+use Rattle.std.proofs.Common.{◌≡◌, ◌++◌, sym, ap, subst}
 use Rattle.ur_frames.specs.declared.frame.Frame.TheVariants as frame
 use Rattle.ur_frames.specs.Steps.{Descends}
 use Rattle.ur_frames.proofs.Leading.{ok_of}

@@ -1,7 +1,7 @@
 use Rattle.std.proofs.Common.{refl, sym, ap, ◌∙◌}
 use Rattle.std.specs.Option.{option_copied}
 use Rattle.ur_frames.specs.declared.frame.Frame.TheVariants as frame
-use Rattle.ur_frames.proofs.Giving.{resumes_known, resumes_safe, resumes_lead}
+use Rattle.ur_frames.proofs.Giving.{resumes_known}
 use Rattle.ur_frames.proofs.frame.Machine.go_on_case.Goals as goal
 
 pub unreachable-requires : goal.unreachable-requires

@@ -6,7 +6,7 @@ use Rattle.ur_frames.specs.Plays.{until}
 use Rattle.ur_frames.specs.Steps.{going}
 use Rattle.ur_frames.proofs.Leading.{not_stuck}
 use Rattle.ur_frames.proofs.Views.{stuck_item}
-use Rattle.ur_frames.proofs.Giving.{resumes_known, resumes_safe, resumes_lead}
+use Rattle.ur_frames.proofs.Giving.{resumes_known, resumes_safe}
 use Rattle.ur_frames.proofs.frame.Machine.go_on_item.Goals as goal
 
 pub unreachable-requires : goal.unreachable-requires

@@ -3,7 +3,7 @@ use Rattle.ur_frames.specs.Rest.{state_of}
 use Rattle.ur_frames.specs.Plays.{no_store}
 use Rattle.ur_frames.specs.Steps.{Leads, with_items, with_items_cost}
 use Rattle.ur_frames.proofs.Leading.{ok_of}
-use Rattle.ur_frames.proofs.Descending.{next_item_leads, items_join, items_spent, items_safe}
+use Rattle.ur_frames.proofs.Descending.{next_item_leads, items_spent, items_safe}
 use Rattle.ur_frames.proofs.frame.Machine.next_item.Goals as goal
 
 pub join-requires : goal.join-requires

@@ -1,4 +1,3 @@
-use Rattle.std.proofs.Common.{sym}
 use Rattle.ur_frames.specs.Steps.{performing}
 use Rattle.ur_frames.proofs.Leading.{not_stuck, perform_failed, perform_spent}
 use Rattle.ur_frames.proofs.frame.Machine.perform.Goals as goal

@@ -1,4 +1,4 @@
-use Rattle.std.proofs.Common.{◌≡◌, ◌++◌, sym, ap, subst, length}
+use Rattle.std.proofs.Common.{◌≡◌, ◌++◌, sym, ap, subst}
 use Rattle.ur_terms.specs.Run.{outcome_of}
 use Rattle.ur_frames.specs.declared.frame.Frame.TheVariants as frame
 use Rattle.ur_frames.specs.Plays.{until}
