@@ -175,7 +175,7 @@ impl World {
         let (word, rest) = line.split_once(' ').unwrap_or((line, ""));
         match word {
             "table" => self.take_table(rest)?,
-            "row" => self.take_row(rest)?,
+            "values" => self.take_row(rest)?,
             "key" => self.take_key(rest)?,
             "arg" => self.take_arg(rest)?,
             "type" => self.next.push(Normal::Type(named_type(rest)))?,
