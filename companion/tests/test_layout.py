@@ -1,0 +1,80 @@
+"""Schemas as texts, and rows as bytes."""
+import unittest
+
+import context  # noqa: F401
+from urweb_companion.layout import Column, Damaged, Refused, Schema, Table, named, one, schema_of
+from urweb_companion.rows import First, number_body, number_of, split
+from urweb_companion.values import MOST_BYTES, value_of
+
+NOTE = Table("Main.note", (Column("Body", "string"), Column("Id", "int"), Column("Owner", "string")), (("Id",),), True)
+TEXT = "table Main.note Body:string Id:int Owner:string primary Id\nsequence Main.ids\n"
+
+
+class Schemas(unittest.TestCase):
+    def test_a_text_is_read_and_written(self) -> None:
+        self.assertEqual(schema_of(TEXT), Schema((NOTE,), ("Main.ids",)))
+        for text in (TEXT, "", "table A.t\n", "table A.t B:bool C:int unique B C unique C\nsequence A.s\nsequence B.s\n"):
+            self.assertEqual(schema_of(text).text(), text)
+
+    def test_other_texts_are_none(self) -> None:
+        for text in ("view x\n", "table\n", "table A.t B\n", "table A.t B:float\n", "table A.t B:int primary C\n", "sequence a b\n"):
+            with self.assertRaises(Damaged, msg=text):
+                schema_of(text)
+
+    def test_names_without_modules(self) -> None:
+        self.assertEqual(named(["A.t", "B.t", "A.u"], "t"), ["A.t", "B.t"])
+        self.assertEqual(one(["A.t", "A.u"], "u", ""), "A.u")
+        for name in ("t", "v"):
+            with self.assertRaises(Refused, msg=name):
+                one(["A.t", "B.t"], name, "there is no")
+
+
+class Rows(unittest.TestCase):
+    def test_the_row_of_the_document(self) -> None:
+        body = bytes.fromhex("00000003 612662 0000000000000001 00000003 616e6e")
+        self.assertEqual(First().read(NOTE.columns, body), ("a&b", 1, "ann"))
+        self.assertEqual(First().write(NOTE.columns, ("a&b", 1, "ann")), body)
+
+    def test_ends_of_kinds(self) -> None:
+        columns = (Column("A", "int"), Column("B", "bool"), Column("C", "string"))
+        for row in ((-(2**63), False, ""), (2**63 - 1, True, "ä😀\0\n"), (-1, True, "x")):
+            self.assertEqual(First().read(columns, First().write(columns, row)), row)
+        self.assertEqual(First().write(columns, (-1, True, "ä")).hex(), "ffffffffffffffff" "01" "00000002" "c3a4")
+
+    def test_bodies_that_are_no_row(self) -> None:
+        body = First().write(NOTE.columns, ("a&b", 1, "ann"))
+        for wrong in (body[:-1], body + b"\0", body[:4] + b"\xff" + body[5:], b""):
+            with self.assertRaises(Damaged, msg=wrong):
+                First().read(NOTE.columns, wrong)
+        with self.assertRaises(Damaged):
+            First().read((Column("B", "bool"),), b"\2")
+
+    def test_numbers_and_layouts(self) -> None:
+        self.assertEqual(number_of(number_body(258)), 258)
+        self.assertEqual(number_body(1).hex(), "0000000000000001")
+        with self.assertRaises(Damaged):
+            number_of(b"\1")
+        self.assertEqual(split(TEXT)[1], TEXT)
+        with self.assertRaises(Damaged):
+            split("layout 7\n" + TEXT)
+
+
+class Values(unittest.TestCase):
+    def test_texts_of_each_kind(self) -> None:
+        for kind, text, value in (
+            ("int", "-9223372036854775808", -(2**63)), ("int", " 7 ", 7), ("bool", "True", True), ("bool", "false", False), ("string", " x ", " x "),
+            ("string", "", ""),
+        ):
+            self.assertEqual(value_of(Column("A", kind), text), value)
+
+    def test_other_texts(self) -> None:
+        for kind, text in (
+            ("int", ""), ("int", "x"), ("int", "1.0"), ("int", "9223372036854775808"), ("int", "--1"), ("int", "٣"), ("bool", "1"), ("bool", ""),
+            ("string", "\udcff"), ("string", "x" * (MOST_BYTES + 1)),
+        ):
+            with self.assertRaises(ValueError, msg=(kind, text[:20])):
+                value_of(Column("A", kind), text)
+
+
+if __name__ == "__main__":
+    unittest.main()

@@ -1,0 +1,1 @@
+"""What stands beside the program: words of `./urweb` for those who write applications. Each word is a module with `main(words) -> status`."""

@@ -1,0 +1,2 @@
+val main : unit -> transaction page
+val list : string -> string -> int -> int -> transaction page
