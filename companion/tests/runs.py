@@ -24,14 +24,16 @@ def ran(program: Path, words: Sequence[str], stdin: bytes = b"", folder: Path = 
     return subprocess.run([program, *words], input=stdin, capture_output=True, cwd=folder, timeout=SECONDS)
 
 
+def hears(ignored: Sequence[int] = ()) -> None:
+    """Has this process ignore these signals alone, also where the tests run in the background of a script or under `nohup`."""
+    for number in (signal.SIGHUP, signal.SIGINT, signal.SIGQUIT, signal.SIGTERM, signal.SIGUSR1, signal.SIGUSR2):
+        signal.signal(number, signal.SIG_IGN if number in ignored else signal.SIG_DFL)
+
+
 def started(program: Path, words: Sequence[str], folder: Path = context.TOP, ignored: Sequence[int] = ()) -> subprocess.Popen[bytes]:
     """Starts a server, with these signals ignored."""
-
-    def ignore() -> None:
-        for number in ignored:
-            signal.signal(number, signal.SIG_IGN)
-
-    return subprocess.Popen([program, *words], stdin=subprocess.DEVNULL, stdout=subprocess.PIPE, stderr=subprocess.PIPE, cwd=folder, preexec_fn=ignore)
+    return subprocess.Popen([program, *words], stdin=subprocess.DEVNULL, stdout=subprocess.PIPE, stderr=subprocess.PIPE, cwd=folder,
+                            preexec_fn=lambda: hears(ignored))
 
 
 def fetched(port: int, request: bytes) -> bytes:

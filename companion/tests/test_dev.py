@@ -15,6 +15,7 @@ from pathlib import Path
 from urllib.parse import urlencode
 
 import context
+from runs import hears
 from trying import GUESTBOOK, SECONDS, Trial, ran
 from urweb_companion import dev
 from urweb_companion.child import Child
@@ -55,7 +56,8 @@ class Dev:
 
     def __init__(self, project: Path, *words: str, temporary: Path) -> None:
         command = [sys.executable, str(context.TOP / "companion"), "dev", str(project), "--port", "0", *words]
-        self.process = subprocess.Popen(command, stdout=subprocess.PIPE, stderr=subprocess.STDOUT, text=True, env={**os.environ, "TMPDIR": str(temporary)})
+        self.process = subprocess.Popen(command, stdout=subprocess.PIPE, stderr=subprocess.STDOUT, text=True, preexec_fn=hears,
+                                        env={**os.environ, "TMPDIR": str(temporary)})
         self.lines: list[str] = []
         reader = threading.Thread(target=self._read, daemon=True)
         reader.start()

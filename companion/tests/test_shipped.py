@@ -20,9 +20,9 @@ class Shipped(unittest.TestCase):
         self.folder = tempfile.TemporaryDirectory()
         self.addCleanup(self.folder.cleanup)
         self.top = Path(self.folder.name) / "a folder"
-        for name in ("bin", "tools", "crates/urweb/src", "crates/low/specs", "crates/other/src"):
+        for name in ("bin", "tools/gate", "crates/urweb/src", "crates/low/specs", "crates/other/src"):
             (self.top / name).mkdir(parents=True)
-        for name in ("urweb", "tools/sources-sum"):
+        for name in ("urweb", "tools/gate/sources-sum"):
             shutil.copy2(context.TOP / name, self.top / name)
         shutil.copytree(context.TOP / "companion", self.top / "companion", ignore=shutil.ignore_patterns("__pycache__"))
         (self.top / "crates.txt").write_text("low: # the lowest\nurweb: low\nother: low\n")
@@ -37,11 +37,11 @@ class Shipped(unittest.TestCase):
         path.chmod(0o755)
 
     def release(self) -> None:
-        sources = subprocess.run([self.top / "tools/sources-sum"], capture_output=True, text=True, check=True).stdout.strip()
+        sources = subprocess.run([self.top / "tools/gate/sources-sum"], capture_output=True, text=True, check=True).stdout.strip()
         program = hashlib.sha256((self.top / "bin/urweb").read_bytes()).hexdigest()
         (self.top / "bin/sources.sum").write_text(f"{sources}\na kit\n{program}\n")
 
-    def run_it(self, *words: str, script: Path | None = None, without: tuple[str, ...] = ("rt",)) -> subprocess.CompletedProcess[str]:
+    def run_it(self, *words: str, script: Path | None = None, without: tuple[str, ...] = ("rt",), **more: str) -> subprocess.CompletedProcess[str]:
         """Runs the script with the tools that it needs alone on its path."""
         path = Path(self.folder.name) / "path"
         path.mkdir(exist_ok=True)
@@ -53,7 +53,7 @@ class Shipped(unittest.TestCase):
             if name in without and link.exists():
                 link.unlink()
         words_ = [str(script or self.top / "urweb"), *words]
-        return subprocess.run(words_, capture_output=True, text=True, env={"PATH": str(path), "HOME": self.folder.name}, timeout=SECONDS)
+        return subprocess.run(words_, capture_output=True, text=True, env={"PATH": str(path), "HOME": self.folder.name, **more}, timeout=SECONDS)
 
     def assert_not_run(self, *said: str) -> None:
         ran = self.run_it("check", "x")
@@ -144,6 +144,16 @@ class Shipped(unittest.TestCase):
         (self.top / SOURCE).write_text("fn main() { newer }\n")
         os.utime(self.top / SOURCE, (1, 1))
         self.assert_not_run("the sources are not those that bin/urweb was built from")
+
+    def test_none_is_built_where_that_is_asked(self) -> None:
+        self.run_it("check", "x")
+        kit = Path(self.folder.name) / "path" / "rt"
+        kit.write_text("#!/bin/sh\nexit 7\n")
+        kit.chmod(0o755)
+        (self.top / SOURCE).write_text("fn main() { other }\n")
+        self.assertIn("hours", self.run_it("check", "x", without=()).stderr)
+        ran = self.run_it("check", "x", without=(), URWEB_BUILD="no")
+        self.assertEqual((ran.returncode, "URWEB_BUILD is no" in ran.stderr, "hours" in ran.stderr), (126, True, False))
 
     def test_version_says_that_none_may_be_run(self) -> None:
         self.assertIn(f"program  {self.top}/bin/urweb\n", self.run_it("version").stdout)

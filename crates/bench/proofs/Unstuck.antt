@@ -12,7 +12,7 @@ use Rattle.ur_terms.specs.declared.term.Term.TheVariants as t
 use Rattle.ur_terms.specs.State.{State, Outcome, Done, Error, Spent, Stuck, after, charge}
 use Rattle.ur_terms.specs.Run.{Calls, eval, matched, matched_open, on_match, run, outcome_of}
 use Rattle.ur_terms.proofs.Equations.{eval-Make, eval-Call, eval-Case}
-use Rattle.ur_frames.specs.Plays.{until}
+use Rattle.ur_machine_frames.specs.Plays.{until}
 use Rattle.bench.specs.Running.{function, one_and_rest, branches, counting, IsOneList, IsSum, AreSums, IsSafeCall}
 
 -- ---- sums that nest

@@ -1,6 +1,6 @@
 -- Programs that run without tables.
 use Rattle.std.specs.Prelude.{◌≡◌, ◌≢◌, ℤ, pos, false, List, [], ◌∷◌}
-use Rattle.ur_types.specs.declared.types.ValueType.TheVariants as ty
+use Rattle.ur_values.specs.declared.types.ValueType.TheVariants as ty
 use Rattle.ur_values.specs.declared.value.Value.{Value}
 use Rattle.ur_values.specs.declared.value.Value.TheVariants as v
 use Rattle.ur_terms.specs.declared.term.Branch.{Branch}
@@ -11,7 +11,7 @@ use Rattle.ur_terms.specs.declared.term.Term.{Term}
 use Rattle.ur_terms.specs.declared.term.Term.TheVariants as t
 use Rattle.ur_terms.specs.State.{State, Done, Stuck}
 use Rattle.ur_terms.specs.Run.{Calls, eval, outcome_of}
-use Rattle.ur_frames.specs.Plays.{until}
+use Rattle.ur_machine_frames.specs.Plays.{until}
 
 -- a function of no name with this body
 abbrev pub function : Term → Function

@@ -6,7 +6,7 @@ use std::alloc::Global;
 use ur_base::{List, Memory, Stop, Text};
 use ur_check::check;
 use ur_lex::{Tokens, lex};
-use ur_parse_module::parse;
+use ur_parse::parse;
 use ur_syntax::Module;
 
 /// The greatest number of functions or of uses.

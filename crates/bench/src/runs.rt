@@ -5,11 +5,10 @@ ghost use Rattle.bench.specs.Running.{IsOneList, IsSum, AreSums, IsSafeCall};
 
 use std::alloc::Global;
 use ur_base::{Boxed, List, Memory, Name};
-use ur_frames::{Pause, Stopped, run_call};
-use ur_operations::Operators;
+use ur_machine_frames::{Pause, Stopped, run_call};
+use ur_machine_operations::Operators;
 use ur_terms::{Branch, Function, Op, Pattern, Term};
-use ur_types::ValueType;
-use ur_values::Value;
+use ur_values::{Value, ValueType};
 
 /// The greatest number of levels: a taller term outgrows the stack.
 pub const MOST_LEVELS: u32 = 4_000;

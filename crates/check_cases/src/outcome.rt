@@ -5,7 +5,7 @@ use case_files::Printer;
 use std::alloc::Global;
 use ur_base::{Memory, Refusal, Stop, Text};
 use ur_check::check;
-use ur_limits::exceeded;
+use ur_check_limits::exceeded;
 use ur_tree::Typed;
 
 /// What is asked of a project: its checked source, or whether that is within its limits too.

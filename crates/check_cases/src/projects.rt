@@ -2,8 +2,7 @@
 use std::alloc::Global;
 use ur_base::{List, Memory, Stop, Text};
 use ur_lex::{Tokens, lex};
-use ur_parse_module::parse;
-use ur_parse_sig::parse_signature;
+use ur_parse::{parse, parse_signature};
 use ur_syntax::{Module, Signature};
 
 /// The greatest number of bytes in a file of source.

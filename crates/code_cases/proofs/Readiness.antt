@@ -5,7 +5,7 @@ use Rattle.std.proofs.Math.Nat.{le_trans}
 use Rattle.ur_keeper.specs.Memory.{Memory, kept_of}
 use Rattle.ur_keeper.specs.Tables.{NumbersUpTo}
 use Rattle.ur_serve.specs.Serving.{ServerState, IsReady}
-use Rattle.ur_serve.proofs.Sessions.{ready_at_start}
+use Rattle.ur_serve.proofs.ServeSessions.{ready_at_start}
 use Rattle.code_cases.specs.Ready.{IsReadyFor}
 
 -- a number of 32 bits

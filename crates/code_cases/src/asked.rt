@@ -8,15 +8,13 @@ use crate::words::{first, kind, number};
 use case_files::Printer;
 use std::alloc::Global;
 use ur_base::{List, Memory, Stop};
-use ur_code::Code;
+use ur_code::{Code, listing};
 use ur_effects::effects;
-use ur_listing::listing;
 use ur_tags::{Handlers, path, route, segment, unsegment};
 use ur_terms::{Branch, Op, Term};
-use ur_types::{ValueType, type_text};
-use ur_typing::{Misfit, Untyped, bound_by, covers, operation_type, route_types};
-use ur_values::{ColumnKind, Value};
+use ur_values::{ColumnKind, Value, ValueType, type_text};
 use ur_verify::verify;
+use ur_verify_operations::{Misfit, Untyped, bound_by, covers, operation_type, route_types};
 
 /// What comes of the last line that is none of code, in the code of the others.
 pub fn answer(alloc: Global, question: Question, text: &str, p: &mut Printer) -> Result<(), Stop> {

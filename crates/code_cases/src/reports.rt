@@ -5,9 +5,7 @@ use case_files::Printer;
 use std::alloc::Global;
 use ur_base::{Memory, Refusal, Span};
 use ur_code::Code;
-use ur_reports::{
-    LoadReport, check_report, load_report, refusal_line, schema_report, serving_line,
-};
+use ur_words::{LoadReport, check_report, load_report, refusal_line, schema_report, serving_line};
 
 fn put(p: &mut Printer, report: &[u8]) {
     p.put(b"= ");

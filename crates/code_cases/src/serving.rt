@@ -1,21 +1,20 @@
 //! A server over a keeper in memory, and the connections that it serves.
 ghost use Rattle.std.specs.Prelude.{◌≡◌, ◌≤◌, ◌↔◌, ◌+◌, ℕ, false, true, IfOk, IfSome, IsTrue, length};
 ghost use Rattle.ur_code.specs.Fits.{Fits};
-ghost use Rattle.ur_answers.specs.Answers.{ArePatternsOf};
+ghost use Rattle.ur_machine.specs.Answers.{ArePatternsOf};
 ghost use Rattle.code_cases.specs.Ready.{IsReadyFor};
 
 use crate::codes::{nothing, take_text};
 use std::alloc::Global;
-use ur_answers::patterns_are_sound;
 use ur_base::{List, Memory, Room, Text};
 use ur_code::Code;
+use ur_conditions::Patterns;
 use ur_http::Splitter;
 use ur_invalidate::patterns;
 use ur_io::{Mark, MemoryWire, SessionEnd, Why, Wire};
 use ur_keeper::MemoryKeeper;
-use ur_patterns::Patterns;
-use ur_serve::Server;
-use ur_sessions::session;
+use ur_machine::patterns_are_sound;
+use ur_serve::{Server, session};
 use ur_verify::verify;
 
 /// The most requests of a connection.

@@ -2,7 +2,7 @@
 use case_files::Printer;
 use std::alloc::Global;
 use ur_base::{Boxed, List, Memory, Name, Text};
-use ur_types::{TypeField, ValueType, write_type};
+use ur_values::{TypeField, ValueType, write_type};
 
 /// `i` is an int, `s` a string, `b` a bool, `x` a part of a page and `p` a whole one, `f` a form that sends nothing, `u` a record without
 /// fields, and a digit a datatype.

@@ -5,8 +5,7 @@ use crate::words::{number, text};
 use std::alloc::Global;
 use ur_base::{Boxed, List, Memory, Name};
 use ur_terms::{AnswerForm, Branch, Op, Pattern, Term};
-use ur_types::ValueType;
-use ur_values::{FieldKind, Tag};
+use ur_values::{FieldKind, Tag, ValueType};
 
 /// The last operand.
 fn last(stack: &mut Vec<Term>) -> Result<Term, Memory> {

@@ -6,6 +6,7 @@ mod given;
 mod requests;
 mod runs;
 mod start;
+mod stores;
 mod tables;
 
 use case_files::{Printer, Subjects, run};
@@ -15,7 +16,10 @@ use std::process::ExitCode;
 use ur_base::{Memory, Text};
 
 /// Whole runs.
-struct WholeRuns;
+#[derive(Drop)]
+struct WholeRuns {
+    rt: HostRuntime,
+}
 
 impl Subjects for WholeRuns {
     fn has(&self, word: &str) -> bool {
@@ -24,11 +28,11 @@ impl Subjects for WholeRuns {
 
     fn outcome(&self, alloc: Global, _word: &str, text: &str) -> Result<Text, Memory> {
         let mut p = Printer::new(alloc);
-        put_runs(alloc, text, &mut p)?;
+        put_runs(self.rt, text, &mut p)?;
         p.finish()
     }
 }
 
 fn main(rt: HostRuntime) -> ExitCode {
-    run(&rt, &WholeRuns)
+    run(&rt, &WholeRuns { rt })
 }

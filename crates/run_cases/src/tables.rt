@@ -1,5 +1,6 @@
 //! What a store keeps.
-ghost use Rattle.std.specs.Prelude.{◌≡◌, false, Some};
+ghost use Rattle.std.specs.Prelude.{◌≡◌, false, true, Some};
+ghost use Rattle.ur_keeper.specs.Tables.{Keeps};
 
 use case_files::Printer;
 use std::alloc::Global;
@@ -7,15 +8,19 @@ use ur_base::List;
 use ur_keeper::{Attached, Keeper, MemoryKeeper};
 use ur_values::{Numbered, Schema, TableShape, Value};
 
-/// A line for each table that has rows, with its name and the values of each row in parentheses.
-pub fn put_tables(alloc: Global, keeper: &mut MemoryKeeper, p: &mut Printer)
-    requires { keeper.old.under_way ≡ false }
-{
-    let none = Schema {
+/// No tables: a store of another schema tells it when it is asked for this one, and stays as it is.
+fn no_tables(alloc: Global) -> Schema {
+    Schema {
         tables: List::new(alloc),
         sequences: List::new(alloc),
-    };
-    // A store of another schema tells it, and stays as it is.
+    }
+}
+
+/// A line for each table that has rows, with its name and the values of each row in parentheses.
+pub fn put_held(alloc: Global, keeper: &mut MemoryKeeper, p: &mut Printer)
+    requires { keeper.old.under_way ≡ false }
+{
+    let none = no_tables(alloc);
     let Ok(answer) = keeper.attach(&none) else {
         return;
     };
@@ -37,6 +42,37 @@ fn put_kept(kept: &Schema, keeper: &MemoryKeeper, p: &mut Printer)
             keeper.table(table).as_slice(),
             p,
         );
+    }
+}
+
+/// The same of any keeper, which is attached to its own schema and asked for the rows of each table.
+pub fn put_saved<K: Keeper>(alloc: Global, keeper: &mut K, p: &mut Printer)
+    requires { K.under_way keeper.old ≡ false }
+{
+    let none = no_tables(alloc);
+    let Ok(Attached::Differs(kept)) = keeper.attach(&none) else {
+        return;
+    };
+    let Ok(Attached::Ready) = keeper.attach(&kept) else {
+        return;
+    };
+    keeper.begin();
+    put_scanned(&kept, keeper, p);
+}
+
+/// The rows of each table that is scanned.
+fn put_scanned<K: Keeper>(kept: &Schema, keeper: &mut K, p: &mut Printer)
+    requires under_way { K.under_way keeper.old ≡ true }
+    requires kept { K.kept keeper.old ≡ Keeps kept.now }
+{
+    for i in 0..kept.tables.len() {
+        let Ok(table) = u32::try_from(i) else {
+            return;
+        };
+        let Ok(rows) = keeper.scan(table) else {
+            return;
+        };
+        put_table(&kept.tables.as_slice()[i], rows.as_slice(), p);
     }
 }
 

@@ -3,7 +3,7 @@ use crate::reading::sexp_of;
 use case_files::Printer;
 use std::alloc::Global;
 use ur_base::{List, Memory, Stop, Text};
-use ur_sqlexp::{Source, Within, exp_kind, kind_text};
+use ur_sqltype::{Source, Within, exp_kind, kind_text};
 use ur_syntax::SqlExp;
 use ur_values::ColumnKind;
 

@@ -2,12 +2,10 @@
 use std::alloc::Global;
 use ur_base::Stop;
 use ur_lex::{Tokens, lex};
-use ur_parse_change::read_change;
-use ur_parse_code::Quotes;
 use ur_parse_con::{MAX_NESTING, MAX_PARENTHESES, read_con, read_kind};
+use ur_parse_embed::{read_change, read_query, read_sexp};
+use ur_parse_embed_code::Quotes;
 use ur_parse_rules::ConPlace;
-use ur_parse_select::read_query;
-use ur_parse_sql::read_sexp;
 use ur_syntax::{Con, Kind, SqlChange, SqlExp, SqlQuery};
 
 /// The longest text that is read.

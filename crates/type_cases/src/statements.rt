@@ -10,17 +10,15 @@ use crate::values::{put_planned, put_rows};
 use case_files::Printer;
 use std::alloc::Global;
 use ur_base::{List, Memory, Stop};
-use ur_fits::{change_fits, query_fits};
-use ur_invalidate::patterns;
-use ur_patterns::Patterns;
+use ur_conditions::Patterns;
+use ur_invalidate::{patterns, sites_text};
 use ur_rows::Normal;
-use ur_sites::sites_text;
 use ur_sql::{Action, Change, Query, Scalar, answer, plan_action};
-use ur_sqlchange::{TypedChange, type_change};
-use ur_sqlquery::{TypedQuery, type_query};
+use ur_sqltype_statements::{TypedChange, TypedQuery, type_change, type_query};
 use ur_syntax::{SqlChange, SqlQuery};
-use ur_type_words::row_text;
+use ur_tree::row_text;
 use ur_values::Schema;
+use ur_verify::{change_fits, query_fits};
 
 /// The types of the antiquotes of a statement, by its number.
 fn found(world: &World, number: usize) -> &[Normal] {

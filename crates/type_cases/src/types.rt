@@ -6,10 +6,10 @@ use std::alloc::Global;
 use ur_base::{List, Memory, Stop, Text};
 use ur_disjoint::{Assumed, prove};
 use ur_kinds::{kind_of, kind_text};
-use ur_normal::normal;
 use ur_rows::{Label, Normal, Part};
+use ur_rows_normal::normal;
 use ur_syntax::{Con, ConEnv, Kind};
-use ur_type_words::{row_text, type_text};
+use ur_tree::{row_text, type_text};
 
 /// How many tokens there are.
 pub fn tokens(alloc: Global, text: &str, p: &mut Printer) -> Result<(), Stop> {

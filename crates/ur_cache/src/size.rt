@@ -6,11 +6,14 @@ ghost use Rattle.ur_cache.specs.Entries.{most_size};
 
 use ur_values::{Atom, Value};
 
+/// The greatest size of an entry: of its key and the rows of its answer together.
+const MOST_SIZE: u64 = 65_536;
+
 /// Whether a key and the rows of its answer are together of the size that a cache keeps, at most 65,536. Takes no memory.
 pub fn fits(key: &[Atom], rows: &[Value]) -> bool
     ensures { result ≡ nat_le (sizes (atom_values key.now) + sizes rows.now) most_size }
 {
-    key_size(key).saturating_add(rows_size(rows)) <= 65536
+    key_size(key).saturating_add(rows_size(rows)) <= MOST_SIZE
 }
 
 fn key_size(key: &[Atom]) -> u64

@@ -2,7 +2,7 @@
 use Rattle.std.proofs.Common.{◌≡◌, ◌≢◌, ℕ, ◌+◌, ◌<◌, ◌≤◌, Bool, true, false, ◌&&◌, cond, [], Option, Some, None, IsSome, refl, sym, ap, subst, ◌∙◌, arith}
 use Rattle.std.specs.BTreeMap.{get, Updates, WritesThrough}
 use Rattle.std.specs.Map.{lookup}
-use Rattle.ur_chains.proofs.Chains.{true_false}
+use Rattle.ur_cacheindex.proofs.Chains.{true_false}
 use Rattle.ur_values.specs.declared.atom.Atom.{Atom}
 use Rattle.ur_values.specs.AtomLaws.{atom_cmp}
 use Rattle.ur_cacheindex.specs.declared.node.Node.{Node}

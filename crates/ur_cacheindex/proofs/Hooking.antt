@@ -3,8 +3,8 @@ use Rattle.std.proofs.Common.{◌≡◌, ◌≢◌, ℕ, ◌+◌, ◌<◌, ◌�
 use Rattle.std.proofs.lemmas.Bool.{cases_eq}
 use Rattle.std.specs.FinMap.{get, insert, len}
 use Rattle.ur_values.specs.declared.atom.Atom.{Atom}
-use Rattle.ur_chains.specs.Chains.{same_number, lists_number, Links, IsChain, Opens}
-use Rattle.ur_chains.proofs.Chains.{number_self, number_apart, number_is, true_false, here, behind, puts_front, put_elsewhere, chain_same, chain_one, chain_first_on}
+use Rattle.ur_cacheindex.specs.Chains.{same_number, lists_number, Links, IsChain, Opens}
+use Rattle.ur_cacheindex.proofs.Chains.{number_self, number_apart, number_is, true_false, here, behind, puts_front, put_elsewhere, chain_same, chain_one, chain_first_on}
 use Rattle.ur_cacheindex.specs.declared.node.Node.{Node}
 use Rattle.ur_cacheindex.specs.declared.linked.Linked.{Linked}
 use Rattle.ur_cacheindex.specs.declared.heads.Head.{Head}

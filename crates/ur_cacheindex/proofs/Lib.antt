@@ -1,3 +1,5 @@
+pub mod Chains
+pub mod Laws
 pub mod Atoms
 mod Dropping
 mod Filling

@@ -3,10 +3,10 @@ use Rattle.std.proofs.Common.{◌≡◌, ◌≢◌, ℕ, ◌+◌, ◌-◌, ◌<�
 use Rattle.std.proofs.lemmas.Bool.{cases_eq}
 use Rattle.std.specs.Cmp.{nat_cmp_total}
 use Rattle.std.specs.FinMap.{get, insert, remove, get-insert, get-remove}
-use Rattle.ur_counted.proofs.Laws.{tied, apart}
+use Rattle.ur_cacheindex.proofs.Laws.{tied, apart}
 use Rattle.ur_values.specs.declared.atom.Atom.{Atom}
-use Rattle.ur_chains.specs.Chains.{same_number, lists_number, without, Links, IsChain, Closes, IsFirstWithout}
-use Rattle.ur_chains.proofs.Chains.{number_self, number_apart, number_is, true_false, takes_off, taken_elsewhere, chain_same, chain_one, chain_next_on, chain_prev_on, chain_next_apart, chain_prev_apart, without_length, without_lists, without_other}
+use Rattle.ur_cacheindex.specs.Chains.{same_number, lists_number, without, Links, IsChain, Closes, IsFirstWithout}
+use Rattle.ur_cacheindex.proofs.Chains.{number_self, number_apart, number_is, true_false, takes_off, taken_elsewhere, chain_same, chain_one, chain_next_on, chain_prev_on, chain_next_apart, chain_prev_apart, without_length, without_lists, without_other}
 use Rattle.ur_cacheindex.specs.declared.node.Node.{Node}
 use Rattle.ur_cacheindex.specs.declared.linked.Link.{Link}
 use Rattle.ur_cacheindex.specs.declared.linked.Linked.{Linked}

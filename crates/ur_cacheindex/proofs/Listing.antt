@@ -7,9 +7,9 @@ use Rattle.std.specs.declared.cmp.Ordering.TheVariants as ordering
 use Rattle.std.specs.Ordering.{nat_cmp, is_eq, ordering_then}
 use Rattle.std.specs.BTreeMap.{get, Updates, WritesThrough}
 use Rattle.std.specs.Map.{lookup}
-use Rattle.ur_chains.specs.Chains.{same_number}
-use Rattle.ur_chains.proofs.Chains.{number_self, number_apart, number_is}
-pub use Rattle.ur_chains.proofs.Chains.{true_false}
+use Rattle.ur_cacheindex.specs.Chains.{same_number}
+use Rattle.ur_cacheindex.proofs.Chains.{number_self, number_apart, number_is}
+pub use Rattle.ur_cacheindex.proofs.Chains.{true_false}
 pub use Rattle.ur_cacheindex.proofs.Stored.{inserted_removed}
 use Rattle.ur_values.specs.declared.atom.Atom.{Atom}
 use Rattle.ur_values.specs.AtomLaws.{atom_cmp}

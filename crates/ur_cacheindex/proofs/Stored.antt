@@ -6,9 +6,9 @@ use Rattle.std.proofs.lemmas.List.Sums.{length-filter, count_by-le-length}
 use Rattle.std.specs.Ordering.{nat_cmp, eq_by_cmp, is_lt}
 use Rattle.std.specs.Cmp.{nat_cmp_total}
 use Rattle.std.specs.FinMap.{get, insert, remove, entries, entries_sorted, find, is_sorted, len, len-entries, entries-from_sorted, get-from_sorted, get-entries, get-insert, get-remove, get-empty, empty}
-use Rattle.ur_counted.proofs.Laws.{tied, apart, same_items}
-use Rattle.ur_chains.specs.Chains.{same_number, lists_number, Once}
-use Rattle.ur_chains.proofs.Chains.{number_self, number_is, true_false}
+use Rattle.ur_cacheindex.proofs.Laws.{tied, apart, same_items}
+use Rattle.ur_cacheindex.specs.Chains.{same_number, lists_number, Once}
+use Rattle.ur_cacheindex.proofs.Chains.{number_self, number_is, true_false}
 use Rattle.ur_cacheindex.specs.declared.node.Node.{Node}
 use Rattle.ur_cacheindex.specs.declared.linked.Linked.{Linked}
 use Rattle.ur_cacheindex.specs.Nodes.{Nodes}

@@ -13,8 +13,8 @@ use Rattle.ur_values.specs.declared.atom.Atom.{Atom}
 use Rattle.ur_values.specs.declared.value.Value.{Value}
 use Rattle.ur_values.specs.Atom.{atom_value, atom_values, fixed_values}
 use Rattle.ur_values.specs.Order.{value_eq, values_eq}
-use Rattle.ur_chains.specs.Chains.{same_number, lists_number, IsChain, first_of}
-use Rattle.ur_chains.proofs.Chains.{number_is, true_false, here, behind, chain_next, chain_first, without_behind}
+use Rattle.ur_cacheindex.specs.Chains.{same_number, lists_number, IsChain, first_of}
+use Rattle.ur_cacheindex.proofs.Chains.{number_is, true_false, here, behind, chain_next, chain_first, without_behind}
 use Rattle.ur_cacheindex.specs.declared.node.Mask.{Mask}
 use Rattle.ur_cacheindex.specs.declared.node.Node.{Node}
 use Rattle.ur_cacheindex.specs.declared.node.NodeId.{NodeId}

@@ -1,3 +1,6 @@
+pub mod Chains
+pub mod Items
+pub mod Lends
 pub mod Calls
 pub mod Linked
 pub mod Lists

@@ -1,9 +1,9 @@
 -- Nodes with their links, and the lists that the links make.
 use Rattle.std.specs.Prelude.{◌≡◌, ◌≢◌, ℕ, ◌+◌, ◌-◌, Bool, true, false, ◌&&◌, cond, nat_lt, List, ◌∷◌, length, map, Option, Some, None, option_map, IsSome, slice_index_or, slice_set}
 use Rattle.std.specs.FinMap.{get, entries, from_sorted}
-use Rattle.ur_counted.specs.Items.{Items}
+use Rattle.ur_cacheindex.specs.Items.{Items}
 use Rattle.ur_values.specs.declared.atom.Atom.{Atom}
-use Rattle.ur_chains.specs.Chains.{same_number, lists_number, without, Links, IsChain}
+use Rattle.ur_cacheindex.specs.Chains.{same_number, lists_number, without, Links, IsChain}
 use Rattle.ur_cacheindex.specs.declared.node.Node.{Node}
 use Rattle.ur_cacheindex.specs.declared.linked.Link.{Link}
 use Rattle.ur_cacheindex.specs.declared.linked.Linked.{Linked}

@@ -6,7 +6,7 @@ use Rattle.std.specs.BTreeMap.{BTreeMap, is_at, get}
 use Rattle.ur_values.specs.declared.atom.Atom.{Atom}
 use Rattle.ur_values.specs.declared.atom.Atom.TheVariants as atom
 use Rattle.ur_values.specs.AtomLaws.{atom_cmp}
-use Rattle.ur_chains.specs.Chains.{same_number}
+use Rattle.ur_cacheindex.specs.Chains.{same_number}
 use Rattle.ur_cacheindex.specs.declared.node.Node.{Node}
 use Rattle.ur_cacheindex.specs.declared.heads.Head.{Head}
 use Rattle.ur_cacheindex.specs.declared.heads.Heads.{Heads}

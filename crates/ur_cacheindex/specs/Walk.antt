@@ -1,7 +1,7 @@
 -- A walk along a list.
 use Rattle.std.specs.Prelude.{◌≡◌, ℕ, ◌+◌, ◌<◌, ◌≤◌, Bool, true, List, ◌∷◌, ◌++◌, length, sum_by, Some}
 use Rattle.std.specs.FinMap.{get, len}
-use Rattle.ur_chains.specs.Chains.{lists_number}
+use Rattle.ur_cacheindex.specs.Chains.{lists_number}
 use Rattle.ur_cacheindex.specs.declared.node.Mask.{Mask}
 use Rattle.ur_cacheindex.specs.declared.node.Node.{Node}
 use Rattle.ur_cacheindex.specs.declared.node.NodeId.{NodeId}

@@ -5,6 +5,7 @@ ghost use Rattle.ur_values.specs.Atom.{atom_values};
 ghost use Rattle.ur_cacheindex.specs.Matching.{node_matches};
 ghost use Rattle.ur_cacheindex.specs.Calls.{Inserts, Finds, node_is_at, DropsIn};
 
+use crate::Counted;
 use crate::heads::Heads;
 use crate::linked::Linked;
 use crate::lists::{insert_in, unlink_in};
@@ -14,7 +15,6 @@ use crate::wanted::Wanted;
 use std::alloc::Global;
 use std::marker::Model;
 use ur_base::{Room, Steps};
-use ur_counted::Counted;
 use ur_values::Atom;
 
 /// Nodes by number, listed by site and by the value at each position of their keys. None of its calls but `insert`

@@ -5,11 +5,11 @@ ghost use Rattle.ur_cacheindex.specs.Calls.{Inserts};
 ghost use Rattle.ur_cacheindex.specs.Lists.{every, atom_at, slots_of, kept_at, head_at, KeepsHead, SetsHead, SameHeads, KeptBelow, AreFilled, StayFilled, AreFilledBut};
 ghost use Rattle.ur_cacheindex.specs.Linked.{look_at, beside, nodes_of, Alike, AreLinked, IsHooked, Unhooks, UnhooksAll, CanHook, CanHookAll, HooksAt, HasNode, FillsAt, StillKept, shorter, longer};
 
+use crate::Counted;
 use crate::heads::{Head, Heads};
 use crate::linked::{Link, Linked, fresh_links, link_at, set_next, set_prev};
 use crate::node::{Node, NodeId};
 use ur_base::{List, Memory, Steps};
-use ur_counted::Counted;
 use ur_values::Atom;
 
 /// The atom of the lists of whole sites.

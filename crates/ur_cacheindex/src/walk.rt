@@ -10,6 +10,7 @@ ghost use Rattle.ur_cacheindex.specs.Wanted.{wanted_takes};
 ghost use Rattle.ur_cacheindex.specs.declared.wanted.Wanted.TheVariants as wanted_form;
 ghost use Rattle.ur_cacheindex.specs.Walk.{IsShortest, IsShorterAt, Leads, DropsLists, Dropping};
 
+use crate::Counted;
 use crate::heads::{Head, Heads};
 use crate::linked::{Linked, link_at};
 use crate::lists::{unlink_in, whole_site};
@@ -17,7 +18,6 @@ use crate::matching::matches_node;
 use crate::node::{Mask, Node, NodeId};
 use crate::wanted::Wanted;
 use ur_base::{Room, Steps};
-use ur_counted::Counted;
 
 /// A list of a slot, from its head.
 #[derive(Clone, Copy)]

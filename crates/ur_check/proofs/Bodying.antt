@@ -11,24 +11,24 @@ use Rattle.ur_syntax.specs.declared.exp.ExpForm.{ExpForm}
 use Rattle.ur_rows.specs.declared.normal.NormalType.{NormalType}
 use Rattle.ur_tree.specs.Heads.{Head}
 use Rattle.ur_tree.specs.IsStatic.{is_static}
-use Rattle.ur_type_conditions.specs.Scopes.{World, Scope, Mode, wants}
-use Rattle.ur_type_rules.specs.Faults.{not_so}
-use Rattle.ur_type_rules.specs.Rules.{if_so}
-use Rattle.ur_scopes.specs.declared.world.World.{World as Held}
-use Rattle.ur_scopes.specs.declared.world.Head.{Head as HeldHead}
-use Rattle.ur_scopes.specs.declared.around.Around.{Around}
-use Rattle.ur_scopes.specs.Views.{Stands, StopIs, head_in, world_in}
-use Rattle.ur_rules.specs.declared.out.Out.{Out as HeldOut}
-use Rattle.ur_rules.specs.declared.out.Sites.{Sites as HeldSites}
-use Rattle.ur_rules.specs.Views.{sites_in, out_in}
+use Rattle.ur_typed_rules.specs.Scopes.{World, Scope, Mode, wants}
+use Rattle.ur_typed_rules.specs.Faults.{not_so}
+use Rattle.ur_typed_rules.specs.Rules.{if_so}
+use Rattle.ur_check_scopes.specs.declared.world.World.{World as Held}
+use Rattle.ur_check_scopes.specs.declared.world.Head.{Head as HeldHead}
+use Rattle.ur_check_scopes.specs.declared.around.Around.{Around}
+use Rattle.ur_check_scopes.specs.Views.{Stands, StopIs, head_in, world_in}
+use Rattle.ur_check_rules.specs.declared.out.Out.{Out as HeldOut}
+use Rattle.ur_check_rules.specs.declared.out.Sites.{Sites as HeldSites}
+use Rattle.ur_check_rules.specs.Views.{sites_in, out_in}
 use Rattle.ur_typed.specs.Rules.{Sites, Out}
 use Rattle.ur_typed.specs.Walking.{typed}
 use Rattle.ur_typed.specs.Causes.{HasFault}
 use Rattle.ur_typed.specs.Declaring.{Sofar, Heading, world_behind, top_scope, datatype_names, body_scope, with_body, body_out, with_val_body, val_body_out}
-use Rattle.ur_heads.specs.declared.project.Project.{Project}
-use Rattle.ur_heads.specs.Views.{Sees}
-use Rattle.ur_heads.proofs.Seeing.{names-seen}
-use Rattle.ur_heads.proofs.Entering.{world-seen}
+use Rattle.ur_check_heads.specs.declared.project.Project.{Project}
+use Rattle.ur_check_heads.specs.Views.{Sees}
+use Rattle.ur_check_heads.proofs.Seeing.{names-seen}
+use Rattle.ur_check_heads.proofs.Entering.{world-seen}
 use Rattle.ur_check.specs.declared.bodies.Bodies.{Bodies as HeldBodies}
 use Rattle.ur_check.specs.Views.{bodies_in, RightSideTells, moves}
 

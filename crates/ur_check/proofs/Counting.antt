@@ -13,9 +13,9 @@ use Rattle.ur_values.specs.declared.schema.ColumnKind.{ColumnKind}
 use Rattle.ur_values.specs.declared.schema.TableShape.{TableShape}
 use Rattle.ur_rows.specs.declared.normal.NormalType.{NormalType}
 use Rattle.ur_rows.specs.Normal.{nf}
-use Rattle.ur_sqltable.specs.Table.{type_kind}
-use Rattle.ur_type_rules.specs.Rules.{small_type}
-use Rattle.ur_type_rules.proofs.Options.{some_of, opened, opened_if, mapped}
+use Rattle.ur_sqltype.specs.Table.{type_kind}
+use Rattle.ur_typed_rules.specs.Rules.{small_type}
+use Rattle.ur_typed_rules.proofs.Options.{some_of, opened, opened_if, mapped}
 use Rattle.ur_typed.specs.Project.{env_at, names_at, written_keys}
 use Rattle.ur_typed.specs.Declaring.{Sofar, Bodies, Checked, with_defined, may_be_defined, argument_out, with_constructor, variant_out, variants_out, with_datatype, full_name, shape_out, with_shape, with_named_cookie, Heading, heading_out, with_head, headings_out, val_type_out, with_val_of, decl_out, bodies_out, decls_out, entered, modules_out}
 

@@ -11,16 +11,16 @@ use Rattle.ur_syntax.specs.declared.decl.DeclForm.TheVariants as decl
 use Rattle.ur_syntax.specs.declared.decl.Module.{Module}
 use Rattle.ur_syntax.specs.declared.exp.Exp.{Exp as WrittenExp}
 use Rattle.ur_rows.specs.declared.normal.NormalType.{NormalType}
-use Rattle.ur_type_rules.specs.Faults.{Tells}
-use Rattle.ur_scopes.specs.Views.{Refuses}
-use Rattle.ur_scopes.proofs.Loops.{drop-here, drop-none}
-use Rattle.ur_rules.specs.Views.{sites_in}
+use Rattle.ur_typed_rules.specs.Faults.{TellsType}
+use Rattle.ur_check_scopes.specs.Views.{Refuses}
+use Rattle.ur_check_scopes.proofs.Loops.{drop-here, drop-none}
+use Rattle.ur_check_rules.specs.Views.{sites_in}
 use Rattle.ur_typed.specs.Typed.{HasNoBody}
 use Rattle.ur_typed.specs.Typed as typed
 use Rattle.ur_typed.specs.Declaring.{Sofar, Bodies, Checked, datatype_names, headings_out, val_type_out, with_val_of, decl_out, group_out, val_body_out, bodies_out, decls_out, entered, modules_out}
 use Rattle.ur_typed.specs.DeclFaults.{BreaksDecl, in_val, names_within, BreaksVal, GroupHasFault, BodiesHaveFault, in_right_side, right_side_moves, in_group, DeclsHaveFault, in_head, in_bodies, in_later_decl, ModulesHaveFault, in_module, in_later_module}
-use Rattle.ur_heads.specs.declared.project.Project.{Project}
-use Rattle.ur_heads.specs.Views.{Sees, Comes}
+use Rattle.ur_check_heads.specs.declared.project.Project.{Project}
+use Rattle.ur_check_heads.specs.Views.{Sees, Comes}
 use Rattle.ur_check.specs.declared.bodies.Bodies.{Bodies as HeldBodies}
 use Rattle.ur_check.specs.Views.{bodies_in, SeesSome, RightSideTells, has_fault, moves, AreHeaded, Declares, DeclHasFault, DeclaresAll, DeclsFault, AddsModule, ModuleHasFault, AddsModules, ModulesFault}
 use Rattle.ur_check.proofs.Grouping.{first-is}
@@ -34,7 +34,7 @@ came p home (Some z) h = (z, refl, h)
 -- a head that breaks a rule
 pub head-fault : (p : Project) (b : HeldBodies) (f : DeclForm) (r : Refusal) → ((home : ℕ) (z : Sofar) → Sees p home z → Refuses (names_within home f z) (BreaksDecl 65536 home z f) r) → DeclHasFault p b f r
 head-fault p b f r h = λ home z s d ds e.
-    let t = h home z s in in_head (subst (λ x. BreaksDecl 65536 home z x t.0) (sym e) t.1) (subst (λ x. Tells (names_within home x z) r t.0) (sym e) t.2)
+    let t = h home z s in in_head (subst (λ x. BreaksDecl 65536 home z x t.0) (sym e) t.1) (subst (λ x. TellsType (names_within home x z) r t.0) (sym e) t.2)
 
 pub val-head-fault : (p : Project) (b : HeldBodies) (x : List ℕ) (c : Con) (e : WrittenExp) (r : Refusal) → ((home : ℕ) (z : Sofar) → Sees p home z → Refuses (datatype_names z) (BreaksVal 65536 z c) r) → DeclHasFault p b (decl.Val x c e) r
 val-head-fault p b x c e r h = head-fault p b (decl.Val x c e) r (λ home z s. let t = h home z s in (t.0, in_val t.1, t.2))

@@ -9,17 +9,17 @@ use Rattle.ur_base.specs.Stopping.{IfRefused}
 use Rattle.ur_base.specs.declared.refusal.Stop.{Stop}
 use Rattle.ur_base.specs.declared.refusal.Stop.TheVariants as stop
 use Rattle.ur_names.specs.Faults.{Fault, fault_of, Told}
-use Rattle.ur_kinded.specs.Faults.{ProjectIsKinded}
+use Rattle.ur_kinds.specs.KindedFaults.{ProjectIsKinded}
 use Rattle.ur_tree.specs.declared.typed.Typed.{Typed}
 use Rattle.ur_typed.specs.Declaring.{Sofar, Checked, no_bodies, modules_out, entries_out, ended, project_out}
 use Rattle.ur_typed.specs.DeclFaults.{EntriesHaveFault, ProjectHasFault, in_signature}
-use Rattle.ur_heads.specs.declared.project.Project.{Project}
-use Rattle.ur_heads.specs.Views.{Sees}
-use Rattle.ur_checked.specs.Made.{IsMadeOf}
+use Rattle.ur_check_heads.specs.declared.project.Project.{Project}
+use Rattle.ur_check_heads.specs.Views.{Sees}
+use Rattle.ur_typed.specs.Made.{IsMadeOf}
 use Rattle.ur_check.specs.declared.bodies.Bodies.{Bodies as HeldBodies}
 use Rattle.ur_check.specs.Views.{bodies_in, AddsModules, EntersAll, ProjectFaults, Resolves}
-use Rattle.ur_checked.specs.Source.{AreFieldNames, begun, IsChecked, IsSourceWithin}
-use Rattle.ur_sound_laws.specs.Sound.{CheckedIsTyped}
+use Rattle.ur_typed.specs.Source.{AreFieldNames, begun, IsChecked, IsSourceWithin}
+use Rattle.ur_typed_laws.specs.Sound.{CheckedIsTyped}
 use Rattle.ur_check.specs.Refused.{HasCause, by_name}
 use Rattle.ur_check.proofs.Counting.{modules-keep}
 

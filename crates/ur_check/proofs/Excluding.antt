@@ -1,12 +1,12 @@
 -- A project that is refused has no source.
 use Rattle.std.proofs.Common.{◌≡◌, ◌∙◌, sym, ℕ, List}
-use Rattle.ur_kinded.specs.Faults.{start}
-use Rattle.ur_kinded.specs.Decls.{in_project}
-use Rattle.ur_kinded.specs.Laws.{FaultyIsNotKinded}
-use Rattle.ur_type_rules.proofs.Options.{some_none}
+use Rattle.ur_kinds.specs.KindedFaults.{start}
+use Rattle.ur_kinds.specs.Decls.{in_project}
+use Rattle.ur_kinds.specs.KindedLaws.{FaultyIsNotKinded}
+use Rattle.ur_typed_rules.proofs.Options.{some_none}
 use Rattle.ur_typed.specs.DeclFaults.{FaultyProjectIsNone}
-use Rattle.ur_checked.specs.Source.{begun}
-use Rattle.ur_source_laws.specs.Given.{NoneHasNoSource}
+use Rattle.ur_typed.specs.Source.{begun}
+use Rattle.ur_typed_laws.specs.Given.{NoneHasNoSource}
 use Rattle.ur_check.specs.Refused.{by_name, by_kind, by_type, CausedIsNone}
 
 pub caused-none : FaultyIsNotKinded → FaultyProjectIsNone → NoneHasNoSource → CausedIsNone

@@ -6,19 +6,19 @@ use Rattle.std.proofs.lemmas.List.{length-append, length-map}
 use Rattle.std.proofs.lemmas.Option.{slice_get-map, slice_get-get_or}
 use Rattle.ur_base.specs.declared.refusal.Refusal.{Refusal}
 use Rattle.ur_syntax.specs.declared.decl.FunDef.{FunDef}
-use Rattle.ur_type_conditions.specs.Scopes.{wants}
-use Rattle.ur_type_rules.proofs.Options.{some_of, some_none, opened}
-use Rattle.ur_scopes.specs.declared.world.Head.{Head as HeldHead}
-use Rattle.ur_scopes.specs.declared.world.FunctionHead.{FunctionHead as HeldFunction}
-use Rattle.ur_scopes.specs.Views.{head_in}
+use Rattle.ur_typed_rules.specs.Scopes.{wants}
+use Rattle.ur_typed_rules.proofs.Options.{some_of, some_none, opened}
+use Rattle.ur_check_scopes.specs.declared.world.Head.{Head as HeldHead}
+use Rattle.ur_check_scopes.specs.declared.world.FunctionHead.{FunctionHead as HeldFunction}
+use Rattle.ur_check_scopes.specs.Views.{head_in}
 use Rattle.ur_typed.specs.Causes.{HasFault}
 use Rattle.ur_typed.specs.Project.{names_at}
 use Rattle.ur_typed.specs.Declaring.{FunctionHead, Sofar, Heading, world_behind, datatype_names, heading_out, with_head, headings_out, body_scope, body_out, group_out}
 use Rattle.ur_typed.specs.DeclFaults.{GroupHasFault, this_body, later_body}
 use Rattle.ur_typed.proofs.Shapes.{front_get}
-use Rattle.ur_heads.specs.declared.project.Project.{Project}
-use Rattle.ur_heads.specs.Views.{Sees, function_in}
-use Rattle.ur_rules.specs.Views.{sites_in}
+use Rattle.ur_check_heads.specs.declared.project.Project.{Project}
+use Rattle.ur_check_heads.specs.Views.{Sees, function_in}
+use Rattle.ur_check_rules.specs.Views.{sites_in}
 use Rattle.ur_check.specs.declared.bodies.Bodies.{Bodies as HeldBodies}
 use Rattle.ur_check.specs.Views.{bodies_in, HasHeading, AreHeaded}
 

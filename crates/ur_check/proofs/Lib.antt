@@ -5,3 +5,8 @@ pub mod Excluding
 pub mod Grouping
 pub mod Making
 pub mod Ending
+pub mod Chains
+pub mod ConShapes
+pub mod ExpShapes
+pub mod Ordering
+pub mod TextShapes

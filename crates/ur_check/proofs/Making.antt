@@ -3,16 +3,16 @@ use Rattle.std.proofs.Common.{◌≡◌, ◌∙◌, sym, ap, ap₂, subst, subst
 use Rattle.ur_tags.specs.declared.routes.Handlers.{Handlers}
 use Rattle.ur_tree.specs.declared.exp.Exp.{Exp}
 use Rattle.ur_tree.specs.declared.typed.Typed.{Typed}
-use Rattle.ur_scopes.specs.declared.world.World.{World as Held}
-use Rattle.ur_scopes.specs.declared.world.FunctionHead.{FunctionHead as HeldFunction}
+use Rattle.ur_check_scopes.specs.declared.world.World.{World as Held}
+use Rattle.ur_check_scopes.specs.declared.world.FunctionHead.{FunctionHead as HeldFunction}
 use Rattle.ur_values.specs.declared.schema.Schema.{Schema}
 use Rattle.ur_typed.specs.Typed.{all_occurrences}
 use Rattle.ur_typed.specs.Declaring.{Sofar}
-use Rattle.ur_heads.specs.declared.project.Project.{Project}
-use Rattle.ur_heads.specs.Views.{Sees, function_in}
-use Rattle.ur_checked.specs.Routing.{AreRoutes}
-use Rattle.ur_checked.specs.Made.{IsMadeOf, function_head}
-use Rattle.ur_routes.specs.declared.routes.Routes.{Routes}
+use Rattle.ur_check_heads.specs.declared.project.Project.{Project}
+use Rattle.ur_check_heads.specs.Views.{Sees, function_in}
+use Rattle.ur_typed.specs.Routing.{AreRoutes}
+use Rattle.ur_typed.specs.Made.{IsMadeOf, function_head}
+use Rattle.ur_check_heads.specs.declared.routes.Routes.{Routes}
 use Rattle.ur_check.specs.declared.bodies.Bodies.{Bodies as HeldBodies}
 use Rattle.ur_check.specs.Views.{bodies_in, IsSourceOf, Routed}
 

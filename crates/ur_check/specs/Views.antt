@@ -9,12 +9,12 @@ use Rattle.ur_syntax.specs.declared.decl.Signature.{Signature}
 use Rattle.ur_syntax.specs.declared.exp.Exp.{Exp as WrittenExp}
 use Rattle.ur_rows.specs.declared.normal.NormalType.{NormalType}
 use Rattle.ur_tree.specs.IsStatic.{is_static}
-use Rattle.ur_type_conditions.specs.Scopes.{wants}
-use Rattle.ur_type_rules.specs.Faults.{Tells, not_so}
-use Rattle.ur_scopes.specs.declared.world.Head.{Head as HeldHead}
-use Rattle.ur_scopes.specs.declared.world.World.{World as Held}
-use Rattle.ur_scopes.specs.Views.{head_in}
-use Rattle.ur_rules.specs.Views.{sites_in}
+use Rattle.ur_typed_rules.specs.Scopes.{wants}
+use Rattle.ur_typed_rules.specs.Faults.{TellsType, not_so}
+use Rattle.ur_check_scopes.specs.declared.world.Head.{Head as HeldHead}
+use Rattle.ur_check_scopes.specs.declared.world.World.{World as Held}
+use Rattle.ur_check_scopes.specs.Views.{head_in}
+use Rattle.ur_check_rules.specs.Views.{sites_in}
 use Rattle.ur_typed.specs.Rules.{Sites, Out}
 use Rattle.ur_typed.specs.Typed.{all_occurrences}
 use Rattle.ur_typed.specs.Walking.{typed}
@@ -22,14 +22,14 @@ use Rattle.ur_typed.specs.Causes.{HasFault}
 use Rattle.ur_typed.specs.Project.{names_at}
 use Rattle.ur_typed.specs.Declaring.{Sofar, Heading, Bodies, Checked, entries_out, project_out, world_behind, top_scope, datatype_names, heading_out, headings_out, decl_out, bodies_out, decls_out, entered, modules_out}
 use Rattle.ur_typed.specs.DeclFaults.{DeclsHaveFault, ModulesHaveFault, ProjectHasFault}
-use Rattle.ur_heads.specs.declared.project.Project.{Project}
-use Rattle.ur_heads.specs.Views.{Sees, function_in}
-use Rattle.ur_checked.specs.Made.{function_head, IsMadeOf}
-use Rattle.ur_checked.specs.Routing.{AreRoutes}
-use Rattle.ur_routes.specs.declared.routes.Routes.{Routes}
+use Rattle.ur_check_heads.specs.declared.project.Project.{Project}
+use Rattle.ur_check_heads.specs.Views.{Sees, function_in}
+use Rattle.ur_typed.specs.Made.{function_head, IsMadeOf}
+use Rattle.ur_typed.specs.Routing.{AreRoutes}
+use Rattle.ur_check_heads.specs.declared.routes.Routes.{Routes}
 use Rattle.ur_tree.specs.declared.typed.Typed.{Typed}
 use Rattle.ur_check.specs.declared.bodies.Bodies.{Bodies as HeldBodies}
-use Rattle.ur_checked.specs.Source.{begun}
+use Rattle.ur_typed.specs.Source.{begun}
 
 abbrev pub bodies_in : HeldBodies → Bodies
 bodies_in b = record { functions = b.functions; vals = b.vals; sites = sites_in b.sites }
@@ -50,7 +50,7 @@ AreHeaded p first fs = (home : ℕ) × (y : Sofar) × (z : Sofar) × Sees p home
 pub data RightSideTells (z : Sofar) (e : WrittenExp) (t : NormalType) (st : Sites) (r : Refusal) : Type 0 where
   has_fault : HasFault (datatype_names z) (world_behind 65536 z) (top_scope z) st e.form (wants t) r → RightSideTells z e t st r
   moves : {o : Out} → typed (world_behind 65536 z) e.form (top_scope z) st (wants t) ≡ Some o → is_static o.exp ≡ false →
-      Tells (datatype_names z) r (not_so (codes "the right side of a val") (codes "a static expression")) → RightSideTells z e t st r
+      TellsType (datatype_names z) r (not_so (codes "the right side of a val") (codes "a static expression")) → RightSideTells z e t st r
 
 -- ---- declarations
 

@@ -1,19 +1,18 @@
 //! The source put together of its parts.
 ghost use Rattle.std.specs.Prelude.{◌≡◌, ℕ, [], map, Some, IfOk, OnOk};
 ghost use Rattle.ur_typed.specs.Declaring.{Sofar};
-ghost use Rattle.ur_checked.specs.Made.{function_head, IsMadeOf};
-ghost use Rattle.ur_heads.specs.Views.{Sees, function_in};
+ghost use Rattle.ur_typed.specs.Made.{function_head, IsMadeOf};
+ghost use Rattle.ur_check_heads.specs.Views.{Sees, function_in};
 ghost use Rattle.ur_check.specs.Views.{bodies_in, IsSourceOf, Routed};
 
 use crate::bodies::Bodies;
 use std::alloc::Global;
 use std::mem;
 use ur_base::{List, Memory, Text};
-use ur_heads::Project;
-use ur_routes::{Routes, routes_of};
+use ur_check_heads::{Project, Routes, routes_of};
+use ur_check_rules::Sites;
+use ur_check_scopes::{FunctionHead, Head, World};
 use ur_rows::{NormalType, copy_text};
-use ur_rules::Sites;
-use ur_scopes::{FunctionHead, Head, World};
 use ur_sql::{Change, Query};
 use ur_syntax::ConEnv;
 use ur_tree::{Exp, Function, ModuleVal, Typed};

@@ -1,30 +1,30 @@
 //! The bodies of functions and `val`s.
 ghost use Rattle.std.specs.Prelude.{◌≡◌, ◌+◌, ◌++◌, ℕ, true, Some, [], ◌∷◌, length, slice_get, IfOk, OnOk, IfSome};
 ghost use Rattle.ur_base.specs.Stopping.{IfRefused};
-ghost use Rattle.ur_scopes.specs.Views.{Stands, head_in};
+ghost use Rattle.ur_check_scopes.specs.Views.{Stands, head_in};
 ghost use Rattle.ur_tree.specs.IsStatic as statics;
-ghost use Rattle.ur_rules.specs.Views.{sites_in, out_in};
-ghost use Rattle.ur_type_conditions.specs.Scopes.{wants};
+ghost use Rattle.ur_check_rules.specs.Views.{sites_in, out_in};
+ghost use Rattle.ur_typed_rules.specs.Scopes.{wants};
 ghost use Rattle.ur_typed.specs.Project.{names_at};
 ghost use Rattle.ur_typed.specs.Walking as walking;
 ghost use Rattle.ur_typed.specs.Causes.{HasFault};
 ghost use Rattle.ur_typed.specs.Declaring.{Sofar, Heading, world_behind, top_scope, datatype_names, heading_out, headings_out, body_scope, body_out, group_out, val_body_out};
 ghost use Rattle.ur_typed.specs.Declaring as declaring;
 ghost use Rattle.ur_typed.specs.DeclFaults.{GroupHasFault};
-ghost use Rattle.ur_heads.specs.Views.{Sees, IsBodyScope};
-ghost use Rattle.ur_scopes.specs.declared.locals.Locals.TheVariants as locals;
+ghost use Rattle.ur_check_heads.specs.Views.{Sees, IsBodyScope};
+ghost use Rattle.ur_check_scopes.specs.declared.locals.Locals.TheVariants as locals;
 ghost use Rattle.ur_check.specs.Views.{bodies_in, SeesSome, HasHeading, AreHeaded, RightSideTells};
 
 use std::alloc::Global;
 use ur_base::{List, Memory, Stop};
-use ur_heads::{BodyScope, Project, body_scope, top, within_body};
-use ur_normal::Place;
+use ur_check_heads::{BodyScope, Project, body_scope, top, within_body};
+use ur_check_rules::{Out, Sites, is_static};
+use ur_check_scopes::{Around, FunctionHead, Head, Locals, not_so};
+use ur_check_walk::typed;
 use ur_rows::NormalType;
-use ur_rules::{Out, Sites, is_static};
-use ur_scopes::{Around, FunctionHead, Head, Locals, not_so};
+use ur_rows_normal::Place;
 use ur_syntax::{Exp as Written, FunDef};
 use ur_tree::Exp;
-use ur_walk::typed;
 
 /// The bodies that are resolved so far, of functions and of `val`s, each by its number, and the statements in them.
 #[derive(Drop)]

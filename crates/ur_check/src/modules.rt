@@ -9,7 +9,7 @@ ghost use Rattle.ur_check.specs.Views.{SeesSome, Declares, DeclHasFault, Declare
 use crate::bodies::{Bodies, group_bodies, val_body};
 use std::alloc::Global;
 use ur_base::{Memory, Stop, Text};
-use ur_heads::{Project, declare, enter, val_head, val_in};
+use ur_check_heads::{Project, declare, enter, val_head, val_in};
 use ur_syntax::{Con, Decl, DeclForm, Exp, FunDef, Module};
 
 /// A `val`. Its right side does not see it.

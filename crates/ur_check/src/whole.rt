@@ -3,23 +3,22 @@ ghost use Rattle.std.specs.Prelude.{◌≡◌, length, IfOk, OnOk};
 ghost use Rattle.std.specs.Option.{option_copied};
 ghost use Rattle.ur_base.specs.Stopping.{IfRefused};
 ghost use Rattle.ur_typed.specs.DeclFaults.{ProjectHasFault};
-ghost use Rattle.ur_checked.specs.Source.{begun, IsSourceWithin};
+ghost use Rattle.ur_typed.specs.Source.{begun, IsSourceWithin};
 ghost use Rattle.ur_check.specs.Refused.{HasCause};
 ghost use Rattle.ur_check.specs.Views.{SeesSome, AddsModules, EntersAll, ProjectFaults, Resolves};
 
 use crate::assembled::assembled;
 use crate::bodies::{Bodies, no_bodies};
+use crate::field_names;
 use crate::modules::modules_in;
 use std::alloc::Global;
 use ur_base::{List, Stop, Text};
-use ur_field_names::field_names;
-use ur_heads::{Project, nothing_declared};
-use ur_kinded::check_kinds;
+use ur_check_heads::{Project, entries, nothing_declared};
+use ur_kinds::check_kinds;
 use ur_names::check_names;
-use ur_routes::entries;
-use ur_sound_laws::checked_is_typed;
 use ur_syntax::{Module, Signature};
 use ur_tree::Typed;
+use ur_typed_laws::checked_is_typed;
 
 /// Declares all modules; the entries of the project.
 fn declared(

@@ -5,8 +5,8 @@ use Rattle.std.specs.Prelude.{map, slice_get}
 use Rattle.std.specs.List.{AllByRecursion, AllZip}
 use mathlib.Core.Former.{Count}
 use Rattle.ur_base.specs.declared.names.Name.{Name}
-use Rattle.ur_types.specs.declared.types.ValueType.{ValueType}
-use Rattle.ur_types.specs.declared.types.ValueType.TheVariants as ty
+use Rattle.ur_values.specs.declared.types.ValueType.{ValueType}
+use Rattle.ur_values.specs.declared.types.ValueType.TheVariants as ty
 use Rattle.ur_values.specs.declared.value.Value.{Value, Row_of-Value, end_of-Value, more_of-Value, Row_of-Node, end_of-Node, more_of-Node, items-the_row-Value, items-the_row-Node, items_hidden-the_row-Node-0, items_hidden-the_row-Value-1}
 use Rattle.ur_values.specs.declared.value.Value.TheVariants as v
 use Rattle.ur_values.specs.declared.value.Node.{Node}

@@ -5,8 +5,8 @@ use Rattle.std.specs.Prelude.{map, slice_get}
 use Rattle.std.specs.List.{AllZip}
 use denote.Hole.Carrier as Carrier
 use Rattle.ur_base.specs.declared.names.Name.{Name}
-use Rattle.ur_types.specs.declared.types.ValueType.{ValueType}
-use Rattle.ur_types.specs.declared.types.ValueType.TheVariants as ty
+use Rattle.ur_values.specs.declared.types.ValueType.{ValueType}
+use Rattle.ur_values.specs.declared.types.ValueType.TheVariants as ty
 use Rattle.ur_values.specs.declared.value.Value.{Value, end_of-Value, more_of-Value}
 use Rattle.ur_values.specs.declared.value.Value.TheVariants as v
 use Rattle.ur_values.specs.declared.value.Node.TheBlock as block

@@ -2,7 +2,7 @@
 use Rattle.std.specs.Prelude.{◌≡◌, ℕ, true, [], length, map, All, Some, slice_get}
 use Rattle.std.specs.List.{AllZip}
 use Rattle.std.specs.Str.{IsUtf8}
-use Rattle.ur_types.specs.declared.types.ValueType.TheVariants as ty
+use Rattle.ur_values.specs.declared.types.ValueType.TheVariants as ty
 use Rattle.ur_sql.specs.Typing.{QueryFits, ChangeFits}
 use Rattle.ur_tags.specs.declared.routes.Route.{Route}
 use Rattle.ur_terms.specs.declared.term.Function.{Function}

@@ -4,3 +4,4 @@ pub mod Links
 pub mod Meaning
 pub mod Fits
 pub mod Sound
+pub mod Texts

@@ -1,8 +1,8 @@
 -- What the typing table gives: no call of fitting code is stuck, and what it comes to has its type.
 use Rattle.std.specs.Prelude.{length}
 use Rattle.std.specs.List.{AllZip}
-use Rattle.ur_types.specs.declared.types.ValueType.{ValueType}
-use Rattle.ur_types.specs.declared.types.ValueType.TheVariants as ty
+use Rattle.ur_values.specs.declared.types.ValueType.{ValueType}
+use Rattle.ur_values.specs.declared.types.ValueType.TheVariants as ty
 use Rattle.ur_values.specs.declared.value.Value.{Value, end_of-Value, more_of-Value}
 use Rattle.ur_values.specs.declared.value.Value.TheVariants as v
 use Rattle.ur_values.specs.declared.value.Call.{Call}

@@ -3,8 +3,7 @@ use ur_base::{List, Text};
 use ur_sql::{Change, Query};
 use ur_tags::Handlers;
 use ur_terms::Function;
-use ur_types::ValueType;
-use ur_values::{ColumnKind, Schema};
+use ur_values::{ColumnKind, Schema, ValueType};
 
 /// A cookie that a program declares: its name, and the kind of its values.
 #[derive(Drop)]

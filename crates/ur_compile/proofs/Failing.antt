@@ -6,13 +6,13 @@ use Rattle.ur_base.specs.declared.refusal.Refusal.{Refusal}
 use Rattle.ur_tree.specs.declared.typed.Typed.{Typed}
 use Rattle.ur_source.specs.Source.{language}
 use Rattle.ur_source.specs.Instances.{IsRoot}
-use Rattle.ur_unfolding.specs.Working.{most_instances}
-use Rattle.ur_unfolding.proofs.Working.{too_many}
+use Rattle.ur_meaning.specs.Working.{most_instances}
+use Rattle.ur_meaning.proofs.Working.{too_many}
 use Rattle.ur_unfold.specs.Limits.{IsSmall}
 use Rattle.ur_unfold.specs.Unfolding as unfolded
 use Rattle.ur_unfold.specs.Unfolding.{ExplainsUnfolded}
-use Rattle.ur_limits.specs.declared.limit.Limit.{Limit}
-use Rattle.ur_limits.specs.Limits.{is_exceeded, in_order, first_exceeded, IsWithinLimits}
+use Rattle.ur_check_limits.specs.declared.limit.Limit.{Limit}
+use Rattle.ur_check_limits.specs.Limits.{is_exceeded, in_order, first_exceeded, IsWithinLimits}
 use Rattle.ur_compile.specs.Explains as explains
 use Rattle.ur_compile.specs.Explains.{Fails}
 use Rattle.ur_compile.specs.Passes.{Passes}

@@ -7,8 +7,8 @@ use Rattle.ur_tree.specs.declared.typed.Typed.{Typed}
 use Rattle.ur_tree.specs.declared.closed.Closed.{Closed}
 use Rattle.ur_source.specs.Instances.{IsClosed}
 use Rattle.ur_unfold.specs.Limits.{IsSmall}
-use Rattle.ur_limits.specs.declared.limit.Limit.{Limit}
-use Rattle.ur_limits.specs.Limits.{IsWithinLimits}
+use Rattle.ur_check_limits.specs.declared.limit.Limit.{Limit}
+use Rattle.ur_check_limits.specs.Limits.{IsWithinLimits}
 use Rattle.ur_mono.specs.Mono.{IsCodeOf, CodeKeepsMeaning, cookie_of}
 use Rattle.ur_effects.specs.Refused.{GetNeverWrites}
 use Rattle.ur_compile.specs.Explains.{HasCode}

@@ -11,8 +11,8 @@ use Rattle.ur_syntax.specs.declared.decl.Module.{Module}
 use Rattle.ur_syntax.specs.declared.decl.Signature.{Signature}
 use Rattle.ur_rows.specs.Nodes.{most_nodes}
 use Rattle.ur_tree.specs.declared.typed.Typed.{Typed}
-use Rattle.ur_checked.specs.Source.{IsSourceWithin}
-use Rattle.ur_project_laws.specs.One.{OneTypedSource}
+use Rattle.ur_typed.specs.Source.{IsSourceWithin}
+use Rattle.ur_typed_laws.specs.One.{OneTypedSource}
 use Rattle.ur_check.specs.Refused.{HasCause, CausedIsNone}
 use Rattle.ur_load.specs.declared.loaded.Loaded.{Loaded}
 use Rattle.ur_load.specs.declared.load_end.LoadEnd.{LoadEnd}

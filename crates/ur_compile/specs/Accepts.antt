@@ -3,7 +3,7 @@ use Rattle.std.specs.Prelude.{◌≡◌, ℕ, List}
 use Rattle.ur_io.specs.Files.{Files}
 use Rattle.ur_rows.specs.Nodes.{most_nodes}
 use Rattle.ur_tree.specs.declared.typed.Typed.{Typed}
-use Rattle.ur_checked.specs.Source.{IsSourceWithin}
+use Rattle.ur_typed.specs.Source.{IsSourceWithin}
 use Rattle.ur_load.specs.declared.loaded.Loaded.{Loaded}
 use Rattle.ur_load.specs.Loaded.{IsLoaded}
 

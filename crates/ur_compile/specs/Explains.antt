@@ -12,8 +12,8 @@ use Rattle.ur_source.specs.Instances.{IsClosed}
 use Rattle.ur_unfold.specs.Limits.{IsSmall}
 use Rattle.ur_unfold.specs.Unfolding.{ExplainsUnfolded}
 use Rattle.ur_mono.specs.Mono.{IsCodeOf}
-use Rattle.ur_limits.specs.declared.limit.Limit.{Limit}
-use Rattle.ur_limits.specs.Limits.{name_of, text_of, first_exceeded}
+use Rattle.ur_check_limits.specs.declared.limit.Limit.{Limit}
+use Rattle.ur_check_limits.specs.Limits.{name_of, text_of, first_exceeded}
 use Rattle.ur_verify.specs.Verifying.{ExplainsUnfit}
 use Rattle.ur_effects.specs.Refused.{ExplainsWrite, GetNeverWrites}
 use Rattle.ur_check.specs.Refused.{HasCause}

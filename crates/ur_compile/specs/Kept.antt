@@ -4,7 +4,7 @@ use Rattle.ur_code.specs.declared.code.Code.{Code}
 use Rattle.ur_code.specs.Fits.{Fits}
 use Rattle.ur_tree.specs.declared.typed.Typed.{Typed}
 use Rattle.ur_unfold.specs.Limits.{IsSmall}
-use Rattle.ur_limits.specs.Limits.{IsWithinLimits}
+use Rattle.ur_check_limits.specs.Limits.{IsWithinLimits}
 use Rattle.ur_mono.specs.Mono.{IsMeaningOf, cookie_of}
 use Rattle.ur_effects.specs.Refused.{GetNeverWrites}
 

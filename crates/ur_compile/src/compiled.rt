@@ -4,8 +4,8 @@ ghost use Rattle.ur_compile.specs.Ends.{IsStopIn};
 
 use std::alloc::Global;
 use ur_base::{List, Memory, Refusal, Stop, Text};
+use ur_conditions::Patterns;
 use ur_load::LoadEnd;
-use ur_patterns::Patterns;
 use ur_verify::Verified;
 
 /// Verified code, and the patterns by which its changes touch cached answers.

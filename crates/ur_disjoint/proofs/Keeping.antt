@@ -17,7 +17,7 @@ use Rattle.ur_disjoint.proofs.Members.{In, in-contains, contains-in}
 
 -- ---- the pieces of a row built part by part
 
-with-in : (x : Piece) (p : Part) (r : List Part) → In x (pieces (with_part p r)) → (piece_of p ≡ x) ⊎ In x (pieces r)
+pub with-in : (x : Piece) (p : Part) (r : List Part) → In x (pieces (with_part p r)) → (piece_of p ≡ x) ⊎ In x (pieces r)
 with-in x p [] i = i
 with-in x p (q ∷ r) i = go (stands_before p q) refl (with-in x p r) where
   go : (b : Bool) → stands_before p q ≡ b → (In x (pieces (with_part p r)) → (piece_of p ≡ x) ⊎ In x (pieces r)) → (piece_of p ≡ x) ⊎ In x (pieces (q ∷ r))
@@ -38,7 +38,7 @@ in-with x p (q ∷ r) i = go (stands_before p q) refl (in-with x p r) where
     later (inr (inl y)) = inl y
     later (inr (inr y)) = inr (ih (inr y))
 
-joined-in : (x : Piece) (r s : List Part) → In x (pieces (joined r s)) → In x (pieces r) ⊎ In x (pieces s)
+pub joined-in : (x : Piece) (r s : List Part) → In x (pieces (joined r s)) → In x (pieces r) ⊎ In x (pieces s)
 joined-in x [] s i = inr i
 joined-in x (p ∷ r) s i = elim (with-in x p (joined r s) i) [
   | inl y ↦ inl (inl y)
@@ -54,19 +54,19 @@ in-joined x (p ∷ r) s (inr i) = in-with x p (joined r s) (inr (in-joined x r s
 
 -- ---- `map` keeps the pieces
 
-variable-piece : (f : NormalType) (v : Var) → piece_of (mapped_variable f v) ≡ row v
+pub variable-piece : (f : NormalType) (v : Var) → piece_of (mapped_variable f v) ≡ row v
 variable-piece (ty.Variable (var.Bound n)) v = go n where
   go : (n : ℕ) → piece_of (mapped_variable (ty.Variable (var.Bound n)) v) ≡ row v
   go zero = refl
   go (suc n) = refl
 variable-piece f v = refl
 
-mapped-piece : (f : NormalType) (p : Part) → piece_of (mapped_part f p) ≡ piece_of p
+pub mapped-piece : (f : NormalType) (p : Part) → piece_of (mapped_part f p) ≡ piece_of p
 mapped-piece f (part.Field' l _ (its t alone)) = refl
 mapped-piece f (part.Piece v) = variable-piece f v
 mapped-piece f (part.Mapped' v _ (its g alone)) = variable-piece (composed f g) v
 
-mapped-in : (x : Piece) (f : NormalType) (r : List Part) → In x (pieces (mapped_row f r)) → In x (pieces r)
+pub mapped-in : (x : Piece) (f : NormalType) (r : List Part) → In x (pieces (mapped_row f r)) → In x (pieces r)
 mapped-in x f [] i = i
 mapped-in x f (p ∷ r) i = elim (with-in x (mapped_part f p) (mapped_row f r) i) [ inl y ↦ inl (sym (mapped-piece f p) ∙ y) | inr y ↦ inr (mapped-in x f r y) ]
 
@@ -78,7 +78,7 @@ in-mapped x f (p ∷ r) (inr i) = in-with x (mapped_part f p) (mapped_row f r) (
 -- ---- what takes the place of a piece
 
 module _ (args : List Normal) where
-  abbrev put_piece : Piece → List Piece
+  abbrev pub put_piece : Piece → List Piece
   put_piece (name l) = name (put_label (arguments args) 0 l) ∷ []
   put_piece (row v) = pieces ((arguments args).rows 0 v)
 
@@ -100,12 +100,12 @@ module _ (args : List Normal) where
     go (inl y) ih = (piece_of p, inl refl, part-in x p y)
     go (inr y) ih = let h = ih y in (h.0, inr h.1, h.2)
 
-  in-row : (x p : Piece) (r : List Part) → In p (pieces r) → In x (put_piece p) → In x (pieces (instance_row args r))
+  pub in-row : (x p : Piece) (r : List Part) → In p (pieces r) → In x (put_piece p) → In x (pieces (instance_row args r))
   in-row x p [] i j = absurd i
   in-row x p (q ∷ r) (inl e) j = in-joined x (put_part (arguments args) 0 q) (instance_row args r) (inl (in-part x q (subst (λ z. In x (put_piece z)) (sym e) j)))
   in-row x p (q ∷ r) (inr i) j = in-joined x (put_part (arguments args) 0 q) (instance_row args r) (inr (in-row x p r i j))
 
-other_way : {known : Assumptions} (p q : Piece) → ApartPieces known p q → ApartPieces known q p
+pub other_way : {known : Assumptions} (p q : Piece) → ApartPieces known p q → ApartPieces known q p
 other_way p q (literals n) = literals (λ e. n (sym e))
 other_way p q (assumed two c i j) = turned two c i j
 other_way p q (turned two c i j) = assumed two c i j

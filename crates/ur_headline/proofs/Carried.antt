@@ -4,7 +4,7 @@ use Rattle.ur_io.specs.declared.session.Mark.{Mark}
 use Rattle.ur_io.specs.declared.session.Mark.TheVariants as mark
 use Rattle.ur_io.specs.declared.session.Why.{Why}
 use Rattle.ur_io.specs.declared.session.SessionEnd.{SessionEnd}
-use Rattle.ur_sessions.specs.Sessions.{Answer, Front, Served, Session, RunsFrom}
+use Rattle.ur_serve.specs.Sessions.{Answer, Front, Served, Session, RunsFrom}
 
 one_longer : (marks : List Mark) (m : Mark) (n : ℕ) → length (marks ++ m ∷ []) + n ≡ length marks + suc n
 one_longer [] m n = omega arith

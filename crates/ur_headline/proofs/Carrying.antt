@@ -3,13 +3,13 @@ use Rattle.std.proofs.Common.{◌≡◌, ℕ, suc, ◌+◌, ◌*◌, Bool, List,
 use Rattle.std.specs.Prelude.{slice_get, ⊤}
 use Rattle.std.proofs.Math.Nat.{mul-suc}
 use Rattle.ur_io.specs.declared.session.SessionEnd.{SessionEnd}
-use Rattle.ur_types.specs.declared.types.ValueType.TheVariants as ty
+use Rattle.ur_values.specs.declared.types.ValueType.TheVariants as ty
 use Rattle.ur_values.specs.declared.value.Value.{Value}
 use Rattle.ur_values.specs.declared.value.Call.{Call}
 use Rattle.ur_values.specs.Store.{Store}
 use Rattle.ur_terms.specs.State.{State, Outcome, Done, Error, Spent, Stuck}
 use Rattle.ur_terms.specs.Sound.{Comes, NumbersLast}
-use Rattle.ur_frames.specs.Plays.{held as state_held}
+use Rattle.ur_machine_frames.specs.Plays.{held as state_held}
 use Rattle.ur_tags.specs.declared.routes.Handlers.{Handlers}
 use Rattle.ur_tags.specs.Paths.{route_path}
 use Rattle.ur_tags.proofs.Owning.{names_own}
@@ -23,7 +23,7 @@ use Rattle.ur_source.specs.Source.{HandlerMeans}
 use Rattle.ur_mono.specs.Mono.{IsMeaningOf}
 use Rattle.ur_machine.specs.Cookies.{carried}
 use Rattle.ur_machine.proofs.Fitting.{carried_fits}
-use Rattle.ur_patterns.specs.declared.patterns.Patterns.{Patterns}
+use Rattle.ur_conditions.specs.declared.patterns.Patterns.{Patterns}
 use Rattle.ur_cache.specs.Cached.{Sites}
 use Rattle.ur_http.specs.declared.request.Method.{Method}
 use Rattle.ur_http.specs.declared.request.Method.TheVariants.{Get, Head, Post, Other}
@@ -31,14 +31,14 @@ use Rattle.ur_http.specs.declared.request.HttpRequest.{HttpRequest}
 use Rattle.ur_http.specs.Answers.{fixed}
 use Rattle.ur_http.specs.Texts.{IsText}
 use Rattle.ur_http.proofs.Texts.{begun_text}
-use Rattle.ur_sessions.specs.Items.{Item, request, bad, Starts, Ends}
-use Rattle.ur_sessions.specs.Sessions.{Answer}
-use Rattle.ur_sessions.specs.Programs as sessions
+use Rattle.ur_serve.specs.Items.{Item, request, bad, Starts, Ends}
+use Rattle.ur_serve.specs.Sessions.{Answer}
+use Rattle.ur_serve.specs.Programs as sessions
 use Rattle.ur_serve.specs.declared.ends.Routed.TheVariants as routing
 use Rattle.ur_serve.specs.Replies.{routed, routed_to, routed_at, if_known, handled, ReachesHandler}
 use Rattle.ur_serve.specs.Replies as replies
 use Rattle.ur_serve.specs.Served.{IsRoutedAs}
-use Rattle.ur_serve.specs.Program.{Program, Holding, Served, ServedAnswers, ServedReaches, Answers, CachedAnswers, kept_store}
+use Rattle.ur_serve.specs.Program.{Program, Holding, ServedProgram, ServedAnswers, ServedReaches, Answers, CachedAnswers, kept_store}
 use Rattle.ur_serve.specs.Program as serve
 use Rattle.ur_serve.proofs.Requests.{request_at, are_bare}
 use Rattle.ur_headline.specs.Source.{program_with, sites_with, source_program, AreSessions, AreCachedSessions}
@@ -124,7 +124,7 @@ fewer code steps n store h = record {
 -- ---- the source with a cache
 
 module _ (app : Typed) (code : Code) (patterns : Patterns) (steps capacity : ℕ) (fit : Fits code) (meaning : IsMeaningOf app code) where
-  abbrev served : Served
+  abbrev served : ServedProgram
   served = record { code = code; patterns = patterns; steps = steps; capacity = capacity }
 
   -- the source with the code's own routes and cookies

@@ -7,7 +7,7 @@ use Rattle.std.proofs.lemmas.List.Elements.{recursion_from_All}
 use Rattle.ur_values.specs.Values.{IsInt}
 use Rattle.ur_keeper.specs.Tables.{Tables, AreSound, store_of}
 use Rattle.ur_code.specs.declared.code.Code.{Code}
-use Rattle.ur_answers.proofs.Kept.{store_fits}
+use Rattle.ur_machine.proofs.Kept.{store_fits}
 use Rattle.ur_headline.specs.Laws.{LastsFor}
 
 -- a next number between 1 and this bound

@@ -1,7 +1,7 @@
 -- The links of a source's pages.
 use Rattle.std.proofs.Common.{length, sym, subst}
 use Rattle.std.specs.List.{AllZip}
-use Rattle.ur_types.specs.declared.types.ValueType.TheVariants as ty
+use Rattle.ur_values.specs.declared.types.ValueType.TheVariants as ty
 use Rattle.ur_values.specs.declared.value.Value.{Value}
 use Rattle.ur_values.specs.declared.value.Value.TheVariants as v
 use Rattle.ur_values.specs.Store.{FitsSchema}

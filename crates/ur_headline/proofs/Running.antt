@@ -3,8 +3,8 @@ use Rattle.std.proofs.Common.{◌≡◌, ℕ, zero, suc, ◌-◌, ◌<◌, min, 
 use Rattle.ur_io.specs.declared.session.SessionEnd.{SessionEnd}
 use Rattle.ur_io.specs.Traffic.{Traffic, Opens, opened, onto_last}
 use Rattle.ur_http.specs.declared.request.HttpRequest.{HttpRequest}
-use Rattle.ur_sessions.specs.Sessions.{Answer}
-use Rattle.ur_sessions.specs.Programs.{IsSession, IsSessionOn}
+use Rattle.ur_serve.specs.Sessions.{Answer}
+use Rattle.ur_serve.specs.Programs.{IsSession, IsSessionOn}
 use Rattle.ur_headline.specs.Continuing.{RunsFrom, Continues, RunSofar}
 
 -- what is put onto a list's new last item

@@ -4,8 +4,8 @@ use Rattle.ur_io.specs.declared.session.SessionEnd.{SessionEnd}
 use Rattle.ur_io.specs.Traffic.{Traffic}
 use Rattle.ur_words.specs.declared.reading.Settings.{Settings}
 use Rattle.ur_values.specs.Store.{Store}
-use Rattle.ur_keeper.specs.Tables.{Tables, Kept, AreSound, store_of}
-use Rattle.ur_patterns.specs.Patterns.{AreAllPatterns}
+use Rattle.ur_keeper.specs.Tables.{Tables, KeptSchema, AreSound, store_of}
+use Rattle.ur_conditions.specs.Patterns.{AreAllPatterns}
 use Rattle.ur_tree.specs.declared.typed.Typed.{Typed}
 use Rattle.ur_serve.specs.Program.{Holding, fresh, ServedAnswers, ServedReaches}
 use Rattle.ur_serve.specs.Responding.{served_by}
@@ -20,7 +20,7 @@ use Rattle.ur_headline.proofs.Running.{run_ends}
 
 pub run_serves : (app : Typed) (s : ServerState) → IsCodeOfSource app s.code → AreAllPatterns s.code.queries s.code.changes s.patterns → s.steps ≤ 4294967295
     → (settings : Settings) → settings.steps ≡ s.steps → settings.cache ≡ s.cache.capacity
-    → (kept : Kept) (saved : Option Tables) (tables : Tables) → AttachLeaves app.schema kept saved tables → AreSound app.schema tables
+    → (kept : KeptSchema) (saved : Option Tables) (tables : Tables) → AttachLeaves app.schema kept saved tables → AreSound app.schema tables
     → (t u : Traffic) (done : List SessionEnd) (after : Store) (reads reads' : ℕ) → HasServed s (store_of tables) reads t done after reads' u
     → Serves app settings kept saved t done (Some u) after reads reads'
 run_serves app s is all few settings steps cache kept saved tables attached sound t u done after reads reads' h =

@@ -4,10 +4,10 @@ use Rattle.ur_io.specs.declared.session.SessionEnd.{SessionEnd}
 use Rattle.ur_io.specs.Traffic.{Traffic}
 use Rattle.ur_http.specs.declared.request.HttpRequest.{HttpRequest}
 use Rattle.ur_http.specs.Answers.{fixed}
-use Rattle.ur_sessions.specs.Items.{Starts, Ends}
-use Rattle.ur_sessions.specs.Sessions.{Answer}
-use Rattle.ur_sessions.specs.Sessions as sessions
-use Rattle.ur_sessions.specs.Programs.{Replies, ReachesHandler}
+use Rattle.ur_serve.specs.Items.{Starts, Ends}
+use Rattle.ur_serve.specs.Sessions.{Answer}
+use Rattle.ur_serve.specs.Sessions as sessions
+use Rattle.ur_serve.specs.Programs.{Replies, ReachesHandler}
 
 module _ {S T : Type 0} (Answers : S → HttpRequest → Bool → Answer S → Type 0) (Reaches : HttpRequest → Type 0) (kept : S → T) where
   -- sessions on the first connections while so many requests may be answered

@@ -6,6 +6,7 @@ use Rattle.ur_io.specs.declared.session.Mark.{Mark}
 use Rattle.ur_io.specs.declared.session.Mark.TheVariants as mark
 use Rattle.ur_io.specs.declared.session.Why.{Why}
 use Rattle.ur_io.specs.declared.session.Why.TheVariants.{Wire}
+use Rattle.ur_serve.specs.Sessions.{most_requests}
 use Rattle.ur_words.specs.declared.reading.Reading.{Reading}
 use Rattle.ur_words.specs.declared.reading.Reading.TheVariants.{Replay, Serve}
 
@@ -57,7 +58,7 @@ IsWireStatus reading sessions = ⊥
 
 -- a run's requests are over
 abbrev pub HasAllMarks : List SessionEnd → Type 0
-HasAllMarks sessions = 16777216 ≤ marks_of sessions
+HasAllMarks sessions = most_requests ≤ marks_of sessions
 
 -- Every connection up to the number allowed has its session, or there is a cause: the run's last request, or one of these
 -- statuses.

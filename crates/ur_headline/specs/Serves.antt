@@ -1,36 +1,36 @@
 -- What a run serves: the sessions, the bytes given and the tables afterwards are the source's.
-use Rattle.std.specs.Prelude.{◌≡◌, ◌⊎◌, ℕ, ◌++◌, List, length, drop, Option, Some, IsSome, option_map, ⊤}
+use Rattle.std.specs.Prelude.{◌≡◌, ◌⊎◌, ℕ, ◌++◌, List, length, drop, Option, Some, option_map, ⊤}
 use Rattle.ur_base.specs.Told.{Tells}
 use Rattle.ur_io.specs.declared.session.SessionEnd.{SessionEnd}
 use Rattle.ur_io.specs.Traffic.{Traffic}
 use Rattle.ur_words.specs.declared.reading.Settings.{Settings}
 use Rattle.ur_values.specs.declared.schema.Schema.{Schema}
+use Rattle.ur_values.specs.SchemaText.{schema_text}
 use Rattle.ur_values.specs.Store.{Store}
-use Rattle.ur_keeper.specs.Tables.{Tables, Kept, Untold, Empty, Keeps, AreSound, empty_tables, store_of}
-use Rattle.ur_patterns.specs.declared.patterns.Patterns.{Patterns}
-use Rattle.ur_patterns.specs.Patterns.{AreAllPatterns}
+use Rattle.ur_keeper.specs.Tables.{Tables, KeptSchema, Untold, Empty, Keeps, Spells, AreSound, empty_tables, store_of}
+use Rattle.ur_conditions.specs.declared.patterns.Patterns.{Patterns}
+use Rattle.ur_conditions.specs.Patterns.{AreAllPatterns}
 use Rattle.ur_tree.specs.declared.typed.Typed.{Typed}
 use Rattle.ur_serve.specs.Program.{Holding, fresh}
 use Rattle.ur_headline.specs.Source.{AreSessions, AreCachedSessions}
 
 -- ---- tables
 
--- a keeper that tells its tables in each state in which it tells a schema
-abbrev pub TellsTables : (K : Type 0) → (K → Kept) → (K → Option Tables) → Type 0
-TellsTables K kept saved = (k : K) (schema : Schema) → kept k ≡ Keeps schema → IsSome (saved k)
-
--- The tables that `attach` leaves: where the store was empty, the schema's empty ones; where it kept a schema, those that it had.
--- Of a store that did not tell its schema nothing is said.
-abbrev pub AttachLeaves : Schema → Kept → Option Tables → Tables → Type 0
+-- The tables that `attach` leaves: where the store was empty, the schema's empty ones; where it kept a schema or the text of one, those
+-- that it had. Of a store that did not tell its schema nothing is said.
+abbrev pub AttachLeaves : Schema → KeptSchema → Option Tables → Tables → Type 0
 AttachLeaves schema Untold saved tables = ⊤
 AttachLeaves schema Empty saved tables = tables ≡ empty_tables schema
 AttachLeaves schema (Keeps kept) saved tables = saved ≡ Some tables
+AttachLeaves schema (Spells text has) saved tables = tables ≡ has schema
 
--- The saved tables where nothing was served: as before, or, where the store was empty, the schema's empty ones.
-abbrev pub IsAttached : Schema → Kept → Option Tables → Option Tables → Type 0
+-- The saved tables where nothing was served: as before, or, where the store was empty, the schema's empty ones, and where it kept the
+-- schema's text, those that it had.
+abbrev pub IsAttached : Schema → KeptSchema → Option Tables → Option Tables → Type 0
 IsAttached schema Untold saved saved' = ⊤
 IsAttached schema Empty saved saved' = (saved' ≡ saved) ⊎ (saved' ≡ option_map (λ t. empty_tables schema) saved)
 IsAttached schema (Keeps kept) saved saved' = saved' ≡ saved
+IsAttached schema (Spells text has) saved saved' = (saved' ≡ saved) ⊎ ((text ≡ schema_text schema) × (saved' ≡ Some (has schema)))
 
 -- ---- runs
 
@@ -46,7 +46,7 @@ pub record HasScans (app : Typed) (settings : Settings) (store : Store) (connect
 
 -- The wire took the first connections and gave this more on them. From the tables that `attach` left to those that are saved
 -- now the sessions are the source's, whatever the capacity of the cache; and the scans are those of a cache of that capacity.
-pub record Serves (app : Typed) (settings : Settings) (kept : Kept) (saved : Option Tables) (t : Traffic) (sessions : List SessionEnd)
+pub record Serves (app : Typed) (settings : Settings) (kept : KeptSchema) (saved : Option Tables) (t : Traffic) (sessions : List SessionEnd)
     (wire : Option Traffic) (after : Store) (reads reads' : ℕ) : Type 0 where
   pub tables : Tables
   pub attached : AttachLeaves app.schema kept saved tables

@@ -7,7 +7,7 @@ use Rattle.ur_values.specs.declared.value.Call.{Call}
 use Rattle.ur_values.specs.Store.{Store, FitsSchema}
 use Rattle.ur_terms.specs.State.{State, Done}
 use Rattle.ur_terms.specs.Sound.{NumbersLast}
-use Rattle.ur_frames.specs.Plays.{held}
+use Rattle.ur_machine_frames.specs.Plays.{held}
 use Rattle.ur_sql.specs.declared.query.Query.{Query}
 use Rattle.ur_tags.specs.declared.routes.Handlers.{Handlers}
 use Rattle.ur_tags.specs.Paths.{RoutesBack}
@@ -19,10 +19,10 @@ use Rattle.ur_code.specs.RouteTypes.{IsRequestOf}
 use Rattle.ur_code.specs.Sound.{FitsCookie}
 use Rattle.ur_mono.specs.Mono.{cookie_of}
 use Rattle.ur_machine.specs.Cookies.{carried}
-use Rattle.ur_patterns.specs.declared.patterns.Patterns.{Patterns}
-use Rattle.ur_patterns.specs.Masks.{update_masks}
+use Rattle.ur_conditions.specs.declared.patterns.Patterns.{Patterns}
+use Rattle.ur_conditions.specs.Masks.{update_masks}
 use Rattle.ur_cache.specs.Cached.{Sites}
-use Rattle.ur_answers.specs.Answers.{items_in}
+use Rattle.ur_machine.specs.Answers.{items_in}
 use Rattle.ur_serve.specs.Program.{Program, Holding}
 use Rattle.ur_serve.specs.Program as serve
 

@@ -18,7 +18,7 @@ use Rattle.ur_sql.specs.declared.pattern.Guard.TheVariants as guard
 use Rattle.ur_sql.specs.Answer.{first_ones}
 use Rattle.ur_sql.proofs.KeyedGroups.{any_first, first_push}
 use Rattle.ur_conditions.specs.declared.pair.Pair.{Pair}
-use Rattle.ur_patterns.specs.Patterns.{key_eq, guard_eq, pattern_eq, IsPatternOf, AreRead}
+use Rattle.ur_conditions.specs.Patterns.{key_eq, guard_eq, pattern_eq, IsPatternOf, AreRead}
 
 -- ---- equality of patterns is an equivalence
 

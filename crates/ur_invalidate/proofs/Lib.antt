@@ -1,3 +1,13 @@
+pub mod Adds
+pub mod Leaves
+pub mod Numbers
+pub mod Parts
+pub mod Places
+pub mod Shapes
+pub mod Stages
+pub mod Steps
+pub mod Told
+pub mod Transfer
 pub mod FirstOnes
 pub mod Pointwise
 pub mod ReadOff

@@ -10,9 +10,9 @@ use Rattle.ur_sql.specs.declared.pattern.KeyAt.{KeyAt}
 use Rattle.ur_sql.specs.declared.pattern.Guard.{Guard}
 use Rattle.ur_conditions.specs.Disjuncts.{Equation}
 use Rattle.ur_conditions.specs.declared.pair.Pair.{Pair}
-use Rattle.ur_patterns.specs.Patterns.{constants_of, is_consistent, args_in_class, constant_in_class, key_by, key_at, guards_by, guards_of, pattern_by, IsPatternOf}
-use Rattle.ur_classes.specs.declared.classes.Classes.{Classes}
-use Rattle.ur_classes.specs.PairClasses.{AreClassesOf, classes_by}
+use Rattle.ur_conditions.specs.Patterns.{constants_of, is_consistent, args_in_class, constant_in_class, key_by, key_at, guards_by, guards_of, pattern_by, IsPatternOf}
+use Rattle.ur_invalidate.specs.declared.classes.Classes.{Classes}
+use Rattle.ur_invalidate.specs.PairClasses.{AreClassesOf, classes_by}
 use Rattle.ur_invalidate.specs.Reading.{clash, have_clash, have_equal_sides, are_consistent, members, constant_in, key_in, guards_at, guards_in, pattern_from}
 
 any_map : {X Y : Type 0} (p : Y → Bool) (f : X → Y) (xs : List X) → list_any p (map f xs) ≡ list_any (λ x. p (f x)) xs

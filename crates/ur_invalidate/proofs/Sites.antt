@@ -7,7 +7,7 @@ use Rattle.std.proofs.lemmas.List.{take_more, length-take-le}
 use Rattle.ur_sql.specs.declared.pattern.Pattern.{Pattern}
 use Rattle.ur_sql.specs.Answer.{first_ones}
 use Rattle.ur_conditions.specs.declared.pair.Pair.{Pair}
-use Rattle.ur_patterns.specs.Patterns.{pattern_eq, IsPatternOf, AreRead}
+use Rattle.ur_conditions.specs.Patterns.{pattern_eq, IsPatternOf, AreRead}
 use Rattle.ur_invalidate.proofs.FirstOnes.{zip_push, one_read}
 
 enumerate_push : {X : Type 0} (n : ℕ) (xs : List X) (x : X) (k : ℕ) → n + length xs ≡ k → enumerate_from n (xs ++ x ∷ []) ≡ enumerate_from n xs ++ (k, x) ∷ []

@@ -13,8 +13,8 @@ use Rattle.ur_conditions.specs.declared.pair.Pair.{Pair}
 use Rattle.ur_conditions.specs.Disjuncts.{Equation}
 use Rattle.ur_conditions.specs.Terms.{HasAtoms}
 use Rattle.ur_conditions.specs.Pairs.{pairs_of, AreAtoms}
-use Rattle.ur_patterns.specs.Patterns.{AreAllPatterns}
-use Rattle.ur_patterns.proofs.Atoms.{pair_atoms}
+use Rattle.ur_conditions.specs.Patterns.{AreAllPatterns}
+use Rattle.ur_conditions.proofs.Atoms.{pair_atoms}
 use Rattle.ur_invalidate.specs.Reading.{AreSitePatterns}
 
 all_from_in : {X : Type 0} (P : X → Type 0) (xs : List X) → ((x : X) → In x xs → P x) → AllByRecursion P xs

@@ -8,8 +8,8 @@ use Rattle.ur_sql.specs.declared.pattern.KeyAt.{KeyAt}
 use Rattle.ur_sql.specs.declared.pattern.Guard.{Guard}
 use Rattle.ur_sql.specs.declared.query.Query.{Query}
 use Rattle.ur_sql.specs.declared.change.Change.{Change}
-use Rattle.ur_classes.specs.declared.classes.Classes.{Classes}
-use Rattle.ur_patterns.specs.Patterns.{key_by, guards_by, ArePatterns}
+use Rattle.ur_invalidate.specs.declared.classes.Classes.{Classes}
+use Rattle.ur_conditions.specs.Patterns.{key_by, guards_by, ArePatterns}
 
 -- two different constants of one class
 abbrev pub clash : Value × ℕ → Value × ℕ → Bool

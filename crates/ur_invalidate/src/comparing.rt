@@ -1,9 +1,9 @@
 //! Whether patterns are equal.
 ghost use Rattle.std.specs.Prelude.{◌≡◌};
 ghost use Rattle.std.specs.Cmp.Lexicographic.{pointwise};
-ghost use Rattle.ur_patterns.specs.Patterns.{key_eq, guard_eq, pattern_eq};
+ghost use Rattle.ur_conditions.specs.Patterns.{key_eq, guard_eq, pattern_eq};
 
-use ur_patterns::same_values;
+use ur_conditions::same_values;
 use ur_sql::{Guard, KeyAt, Pattern};
 
 /// Whether the two patterns are equal. Takes no memory.

@@ -2,14 +2,13 @@
 ghost use Rattle.std.specs.Prelude.{◌≡◌, ◌++◌, not, IfOk, map};
 ghost use Rattle.std.specs.List.{list_any};
 ghost use Rattle.ur_sql.specs.declared.pattern.Guard.TheVariants as guard;
-ghost use Rattle.ur_patterns.specs.Patterns.{key_by, constant_guard, guards_by};
+ghost use Rattle.ur_conditions.specs.Patterns.{key_by, constant_guard, guards_by};
 ghost use Rattle.ur_invalidate.specs.Reading.{clash, have_clash, have_equal_sides, are_consistent, members, constant_in, key_in, guards_at, guards_in, pattern_from};
 
+use crate::Classes;
 use std::alloc::Global;
 use ur_base::{List, Memory};
-use ur_classes::Classes;
-use ur_conditions::push_if;
-use ur_patterns::same_values;
+use ur_conditions::{push_if, same_values};
 use ur_sql::{Guard, KeyAt, Pattern};
 use ur_values::Value;
 

@@ -4,14 +4,14 @@ ghost use Rattle.std.specs.List.{list_any};
 ghost use Rattle.ur_sql.specs.declared.pattern.Pattern.{Pattern as PatternOf};
 ghost use Rattle.ur_sql.specs.Answer.{first_ones};
 ghost use Rattle.ur_conditions.specs.Pairs.{pairs_of, AreAtoms};
-ghost use Rattle.ur_patterns.specs.Patterns.{any_key, pattern_eq, IsPatternOf, AreRead, ArePatterns};
+ghost use Rattle.ur_conditions.specs.Patterns.{any_key, pattern_eq, IsPatternOf, AreRead, ArePatterns};
 ghost use Rattle.ur_invalidate.specs.Reading.{AreSitePatterns};
 
+use crate::classes_of;
 use crate::comparing::same_patterns;
 use crate::reading::pattern_from;
 use std::alloc::Global;
 use ur_base::{List, Memory};
-use ur_classes::classes_of;
 use ur_conditions::{Pair, pairs, pairs_of};
 use ur_sql::{Change, KeyAt, Pattern, Query};
 

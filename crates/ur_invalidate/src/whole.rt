@@ -2,13 +2,13 @@
 ghost use Rattle.std.specs.Prelude.{All, IfOk};
 ghost use Rattle.ur_values.specs.declared.schema.Schema.{Schema};
 ghost use Rattle.ur_sql.specs.Typing.{QueryFits, ChangeFits};
-ghost use Rattle.ur_patterns.specs.Law.{IsSoundInvalidation};
-ghost use Rattle.ur_patterns.specs.Patterns.{AreAllPatterns};
+ghost use Rattle.ur_conditions.specs.Law.{IsSoundInvalidation};
+ghost use Rattle.ur_conditions.specs.Patterns.{AreAllPatterns};
 
 use crate::site::site_patterns;
 use std::alloc::Global;
 use ur_base::{List, Memory};
-use ur_patterns::{Patterns, patterns_keep_answers};
+use ur_conditions::{Patterns, patterns_keep_answers};
 use ur_sql::{Change, Query};
 
 /// The patterns of each change and each query, in order. A pair of more than 65,536 terms takes memory that is not had.

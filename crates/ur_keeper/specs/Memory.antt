@@ -6,7 +6,7 @@ use Rattle.ur_values.specs.declared.schema.Schema.{Schema}
 use Rattle.ur_values.specs.contracts.schema.Schema as schemas
 use Rattle.ur_keeper.specs.declared.keeper.Attached.{Attached}
 use Rattle.ur_keeper.specs.declared.keeper.Attached.TheVariants.{Ready, Differs}
-use Rattle.ur_keeper.specs.Tables.{Tables, Kept, Empty, Keeps, AreTablesOf, AreSound, MayCommit, empty_tables}
+use Rattle.ur_keeper.specs.Tables.{Tables, KeptSchema, Empty, Keeps, AreTablesOf, AreSound, MayCommit, empty_tables}
 use Rattle.ur_base.specs.FaultPlans.{PlanState, new_plan, after_ok, after_failed, plan_coded}
 use Rattle.ur_keeper.specs.Versions.{Both, tables_coded}
 
@@ -28,7 +28,7 @@ memory_code =
 abbrev pub current_of : Memory → Option Tables
 current_of m = Some (if m.under_way then m.current else m.saved)
 
-abbrev pub kept_of : Option Schema → Kept
+abbrev pub kept_of : Option Schema → KeptSchema
 kept_of None = Empty
 kept_of (Some schema) = Keeps schema
 

@@ -1,6 +1,6 @@
 //! The trait of a keeper of tables.
 ghost use Rattle.std.specs.Prelude.{◌≡◌, ℕ, ◌≤◌, ℤ, Bool, true, false, IsTrue, IsFalse, Option, IfOk, OnOk, OnErr};
-ghost use Rattle.ur_keeper.specs.Tables.{Tables, Kept, HasNextNumber, HasNextDraw, HasRowAt, MayCommit, AreRowsOf, inserted, replaced, removed, drawn, table_at, sequence_at};
+ghost use Rattle.ur_keeper.specs.Tables.{Tables, KeptSchema, HasNextNumber, HasNextDraw, HasRowAt, MayCommit, AreRowsOf, inserted, replaced, removed, drawn, table_at, sequence_at};
 ghost use Rattle.ur_base.specs.Counts.{HasCause, next_count};
 ghost use Rattle.ur_base.specs.Told.{WhereTold, Becomes};
 ghost use Rattle.ur_keeper.specs.Keeper.{HasTable, HasSequence, OfShape, OfSchema, IsRowOf, IsUndone, IsWithin, Attaches, AttachesTo, IsReadyOnly};
@@ -43,7 +43,7 @@ pub trait Keeper {
     ghost saved: { Self → Option Tables };
 
     /// The kept schema: not told, none yet, or a schema. From an `attach` that answered Ready on it is told.
-    ghost kept: { Self → Kept };
+    ghost kept: { Self → KeptSchema };
 
     /// Whether a transaction is under way.
     ghost under_way: { Self → Bool };

@@ -29,7 +29,7 @@ use Rattle.ur_kinds.specs.Kindless.{Told, HasNoKind, HasNotKind}
 use Rattle.ur_kinds.proofs.Parts.{faulty-none, fault-known}
 use Rattle.ur_kinds.specs.Words.{is_word, is_map, is_xml_form, is_form, is_empty_row}
 use Rattle.ur_kinds.specs.Walk.{NamesTold, is_type_word, is_maker_word, IsOther, HeadFits, HeadFault, MapFits, FieldKinded, FieldFault, RecordFieldKinded, RecordFieldFault, LabelFault}
-use Rattle.ur_kinds.specs.Faults.{FieldPart, field_type, given_name, bare_name, RecordFieldPart, record_field_type, record_field_name, RowPart, here, later, RecordPart, here_too, later_too, Part, head, argument, given, mapped, mapped_row, form_row, in_row, in_record, bad_kind, no_function, Tells, HasFault, Misfits, faulty, other_kind}
+use Rattle.ur_kinds.specs.Faults.{FieldPart, field_type, given_name, bare_name, RecordFieldPart, record_field_type, record_field_name, RowPart, here, later, RecordPart, here_too, later_too, Part, head, argument, given, mapped, mapped_row, form_row, in_row, in_record, bad_kind, no_function, TellsKind, HasFault, Misfits, faulty, other_kind}
 use Rattle.ur_kinds.proofs.Infer.{one-kind, kinded-known, and-left, and-right, map-is, kinded, word-spelt, word-hidden}
 use Rattle.ur_syntax.proofs.Shapes.{row, record_row, apply-made, fields-made, record-made, kind-arrow}
 use Rattle.ur_kinds.proofs.Walking.{fault-here, fault-within, misfit-within, type-word, maker-word, no-word, next-drop, meet}
@@ -184,9 +184,9 @@ given-kind {s = s} k l i x j y a e g u v m p f h = kind-at y v (applied (subst (
 pub argument-fault : {s : Scope} {k : Kind} (a : Con) (r : Refusal) → HasFault s a.form r → (p : Span) (f : ConForm) → HasKind s f k → HasFault s (apply_con p f a.span a.form) r
 argument-fault a r m p f h = fault-within argument m
 
-pub no-function : {s : Scope} (k i w : Kind) (a : Con) (r : Refusal) → is_plain k ≡ true → HasKind s a.form i → w ≡ arrow i kind.Star → Tells r (bad_kind k w) → (p : Span) (f : ConForm) → HasKind s f k →
+pub no-function : {s : Scope} (k i w : Kind) (a : Con) (r : Refusal) → is_plain k ≡ true → HasKind s a.form i → w ≡ arrow i kind.Star → TellsKind r (bad_kind k w) → (p : Span) (f : ConForm) → HasKind s f k →
     HasFault s (apply_con p f a.span a.form) r
-no-function {s = s} k i w a r n h e t p f m = fault-here {f = bad_kind k (arrow i kind.Star)} (no_function m n h) (subst (λ z. Tells r (bad_kind k z)) e t)
+no-function {s = s} k i w a r n h e t p f m = fault-here {f = bad_kind k (arrow i kind.Star)} (no_function m n h) (subst (λ z. TellsKind r (bad_kind k z)) e t)
 
 -- ---- names of fields
 

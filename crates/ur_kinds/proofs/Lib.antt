@@ -3,3 +3,11 @@ mod Infer
 mod Lookups
 mod Parts
 mod Walking
+mod Chains
+mod Examples
+mod ExpShapes
+mod Heads
+mod Pieces
+mod Projects
+mod Searching
+mod Values

@@ -15,7 +15,7 @@ use Rattle.ur_syntax.specs.Forms.{apply_con}
 use Rattle.ur_syntax.specs.HasKind.{Scope, with_name, HasKind}
 use Rattle.ur_kinds.specs.Unknown.{first, unless_kinded, own_kind, unknown_label, unknown_in, unknown_in_mapped, unknown_in_fields, unknown_in_field, unknown_in_record}
 use Rattle.ur_kinds.specs.Words.{is_map, is_form}
-use Rattle.ur_kinds.specs.Faults.{FieldPart, field_type, given_name, bare_name, RecordFieldPart, record_field_type, record_field_name, RowPart, here, later, RecordPart, here_too, later_too, Part, body, from, to, left, right, head, argument, given, mapped, mapped_row, form_row, dollar, in_row, in_record, StandsIn, itself, within, Fault, Breaks, no_name, no_member, misplaced, no_function, no_variable, Tells, HasFault}
+use Rattle.ur_kinds.specs.Faults.{FieldPart, field_type, given_name, bare_name, RecordFieldPart, record_field_type, record_field_name, RowPart, here, later, RecordPart, here_too, later_too, Part, body, from, to, left, right, head, argument, given, mapped, mapped_row, form_row, dollar, in_row, in_record, StandsIn, itself, within, Fault, Breaks, no_name, no_member, misplaced, no_function, no_variable, TellsKind, HasFault}
 use Rattle.ur_kinds.proofs.Infer.{kinds_eq, if_star, if_row, if_name, if_maker, when, to_body, given_to, applied_to, label_fits, infer, infer_mapped, infer_fields, infer_field, infer_record, and-left, and-right, taken, left-out, no-form, no-map, infer-applied, map-is, kinded, some-same}
 
 no : {A : Type 0} → false ≡ true → A
@@ -217,7 +217,7 @@ stands-known : {s t : Scope} {c d : ConForm} → StandsIn s c t d → unknown_in
 stands-known itself e = e
 stands-known (within p h) e = stands-known h (part-known p e)
 
-breaks-known : {s : Scope} {c : ConForm} {f : Fault} (r : Refusal) → Breaks s c f → unknown_in s c ≡ None → Tells r f → r.code ≡ 9
+breaks-known : {s : Scope} {c : ConForm} {f : Fault} (r : Refusal) → Breaks s c f → unknown_in s c ≡ None → TellsKind r f → r.code ≡ 9
 breaks-known r (no_name {x = x} e) h t = no-name (ap (λ o. unless_kinded o x) (sym e) ∙ h)
 breaks-known r (no_member {m = m} {x = x} e) h t = no-name (ap (λ o. unless_kinded o (name_text (Some m) x)) (sym e) ∙ h)
 breaks-known r (misplaced p h n) e t = t.0

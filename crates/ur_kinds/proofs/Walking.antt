@@ -15,7 +15,7 @@ use Rattle.ur_syntax.specs.HasKind.{Scope, kind_known, word_kind}
 use Rattle.ur_kinds.specs.Unknown.{own_kind, first, unknown_in, unknown_in_fields, unknown_in_field, unknown_in_record}
 use Rattle.ur_kinds.specs.Words.{is_word, is_map, is_xml_form, is_form, is_empty_row}
 use Rattle.ur_kinds.specs.Walk.{is_type_word, is_maker_word, NamesTold, unknown_in_record_field}
-use Rattle.ur_kinds.specs.Faults.{Part, itself, within, Fault, bad_kind, Breaks, Tells, HasFault, Misfits, faulty, other_kind, misplaced}
+use Rattle.ur_kinds.specs.Faults.{Part, itself, within, Fault, bad_kind, Breaks, TellsKind, HasFault, Misfits, faulty, other_kind, misplaced}
 use Rattle.std.specs.Result.{IsErrAnd}
 use Rattle.std.proofs.Math.Seq.{drop-cons, drop-length}
 use Rattle.ur_syntax.specs.declared.con.CField.{CField}
@@ -28,7 +28,7 @@ no e = absurd (true≢false (sym e))
 
 -- ---- faults
 
-pub fault-here : {s : Scope} {c : ConForm} {f : Fault} {r : Refusal} → Breaks s c f → Tells r f → HasFault s c r
+pub fault-here : {s : Scope} {c : ConForm} {f : Fault} {r : Refusal} → Breaks s c f → TellsKind r f → HasFault s c r
 fault-here {s = s} {c = c} {f = f} b t = record { fault = f; scope = s; place = c; stands = itself; broken = b; told = t }
 
 pub fault-within : {s t : Scope} {c d : ConForm} {w : Option Kind} {r : Refusal} → Part s c t d w → HasFault t d r → HasFault s c r

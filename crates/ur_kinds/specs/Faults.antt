@@ -81,9 +81,9 @@ pub data Breaks : Scope → ConForm → Fault → Type 0 where
   no_variable : {s : Scope} {x : List ℕ} {k : Kind} {p : Span} {c : ConForm} → IsFalse (is_plain k) → Breaks s (fn_con x k p c) (bad_kind k kind.Star)
 
 -- a refusal tells a fault: its code and texts
-abbrev pub Tells : Refusal → Fault → Type 0
-Tells r (unknown x) = Says r 7 x []
-Tells r (bad_kind found wanted) = Says r 9 (kind_text found) (kind_text wanted)
+abbrev pub TellsKind : Refusal → Fault → Type 0
+TellsKind r (unknown x) = Says r 7 x []
+TellsKind r (bad_kind found wanted) = Says r 9 (kind_text found) (kind_text wanted)
 
 -- a fault that stands in a constructor, as it is told
 pub record HasFault (s : Scope) (c : ConForm) (r : Refusal) : Type 0 where
@@ -92,9 +92,9 @@ pub record HasFault (s : Scope) (c : ConForm) (r : Refusal) : Type 0 where
   pub place : ConForm
   pub stands : StandsIn s c scope place
   pub broken : Breaks scope place fault
-  pub told : Tells r fault
+  pub told : TellsKind r fault
 
 -- a constructor is not of the kind that is wanted of it, as it is told
 pub data Misfits : Scope → ConForm → Kind → Refusal → Type 0 where
   faulty : {s : Scope} {c : ConForm} {wanted : Kind} {r : Refusal} → HasFault s c r → Misfits s c wanted r
-  other_kind : {s : Scope} {c : ConForm} {found wanted : Kind} {r : Refusal} → HasKind s c found → found ≢ wanted → Tells r (bad_kind found wanted) → Misfits s c wanted r
+  other_kind : {s : Scope} {c : ConForm} {found wanted : Kind} {r : Refusal} → HasKind s c found → found ≢ wanted → TellsKind r (bad_kind found wanted) → Misfits s c wanted r

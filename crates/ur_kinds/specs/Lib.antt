@@ -5,3 +5,9 @@ pub mod Texts
 pub mod Unknown
 pub mod Walk
 pub mod Words
+pub mod Acts
+pub mod Decls
+pub mod Exps
+pub mod KindedFaults
+pub mod Keys
+pub mod KindedLaws

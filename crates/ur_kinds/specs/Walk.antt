@@ -23,7 +23,7 @@ use Rattle.ur_kinds.specs.declared.walk.Head.{Head}
 use Rattle.ur_kinds.specs.declared.walk.Head.TheVariants as head
 use Rattle.ur_kinds.specs.Words.{is_map, is_form}
 use Rattle.ur_kinds.specs.Unknown.{first, unknown_label, unknown_in, unknown_in_mapped}
-use Rattle.ur_kinds.specs.Faults.{HasFault, Misfits, FieldPart, RecordFieldPart, Tells, bad_kind}
+use Rattle.ur_kinds.specs.Faults.{HasFault, Misfits, FieldPart, RecordFieldPart, TellsKind, bad_kind}
 use Rattle.ur_kinds.specs.declared.names.Names.{Names}
 use Rattle.ur_kinds.specs.declared.names.Names.TheVariants as names
 use Rattle.ur_kinds.specs.declared.names.Key.{Key}
@@ -107,4 +107,4 @@ pub record LabelFault (s : Scope) (x : FieldName) (r : Refusal) : Type 0 where
 
 -- a refusal tells two kinds that differ
 abbrev pub IsOther : Kind → Kind → Refusal → Type 0
-IsOther found wanted r = (found ≢ wanted) × Tells r (bad_kind found wanted)
+IsOther found wanted r = (found ≢ wanted) × TellsKind r (bad_kind found wanted)

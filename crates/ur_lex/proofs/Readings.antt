@@ -110,7 +110,8 @@ same_content a {i} r q = (fit_both a r q [] [] refl (nothing_first a) (nothing_f
 
 -- ---- the first piece
 
-bool_cases : (b : Bool) → (b ≡ true) ⊎ (b ≡ false)
+-- a test says yes or no
+pub bool_cases : (b : Bool) → (b ≡ true) ⊎ (b ≡ false)
 bool_cases true = inl refl
 bool_cases false = inr refl
 

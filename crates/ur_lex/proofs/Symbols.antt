@@ -1,29 +1,36 @@
 -- Keywords and symbols by their tables.
-use Rattle.std.proofs.Common.{◌≡◌, ℕ, ◌+◌, ◌<◌, ◌≤◌, zero, suc, Bool, true, false, ◌&&◌, not, List, [], ◌∷◌, length, take, get_or, map, refl, sym, ap, subst, ◌∙◌, arith}
-use Rattle.std.specs.Prelude.{nat_le, nat_lt}
-use Rattle.std.specs.List.{list_all, list_any}
+use Rattle.std.proofs.Common.{◌≡◌, ℕ, ◌+◌, ◌<◌, ◌≤◌, zero, suc, Bool, true, false, ◌&&◌, not, List, [], ◌∷◌, length, take, get_or, map, Option, Some, refl, sym, ap, subst, ◌∙◌, arith, inl, inr}
+use Rattle.std.specs.Prelude.{nat_le, nat_lt, if◌then◌else◌, MatchOption}
+use Rattle.std.specs.List.{list_all}
 use Rattle.std.specs.Str.{bytes_eq}
 use Rattle.std.proofs.lemmas.Bool.Decides.{nat_tests}
+use Rattle.std.proofs.lemmas.Slice.Eq.{bytes_eq-Decides}
 use Rattle.std.proofs.lemmas.List.{length-take, get_or-take, get_or_default, take_more}
 use Rattle.ur_lex.specs.declared.mode.Mode.{Mode}
 use Rattle.ur_lex.specs.declared.token.Keyword.{Keyword}
 use Rattle.ur_lex.specs.declared.token.Symbol.{Symbol}
 use Rattle.ur_lex.specs.declared.token.Symbol.TheVariants as symbol
 use Rattle.ur_lex.specs.Spelling.{Text}
-use Rattle.ur_lex.specs.Spelling.{keyword_text, symbol_text}
-use Rattle.ur_lex.specs.Scanning.{symbols, is_symbol, NoSymbol, IsLongestSymbol}
+use Rattle.ur_lex.specs.Spelling.{is_among, keyword_text, symbol_text}
+use Rattle.ur_lex.specs.Scanning.{listed_keyword, symbols, is_symbol, NoSymbol, IsLongestSymbol}
 use Rattle.ur_lex.proofs.Texts.{and_left, and_right, list_all_of, list_all_push}
+use Rattle.ur_lex.proofs.Readings.{bool_cases}
 
 not_false : (b : Bool) → not b ≡ true → b ≡ false
 not_false true h = absurd (cc)
 not_false false h = refl
 
--- no keyword so far is spelled so
-pub no_keyword : (w : Text) (ks : List Keyword) → list_all (λ k. not (bytes_eq w (keyword_text k))) ks ≡ true → list_any (bytes_eq w) (map keyword_text ks) ≡ false
-no_keyword w [] h = refl
-no_keyword w (k ∷ ks) h =
-    let e : bytes_eq w (keyword_text k) ≡ false = not_false (bytes_eq w (keyword_text k)) (and_left _ _ h) in
-    rw e (no_keyword w ks (and_right (not (bytes_eq w (keyword_text k))) _ h))
+-- what a table of keywords has for a word is spelled so, and where it has nothing, no keyword is
+pub keyword_among : (ks : List Keyword) (w : Text) (found : Option Keyword) → listed_keyword (map (λ k. (keyword_text k, k)) ks) w ≡ found →
+    MatchOption found (is_among (map keyword_text ks) w ≡ false) (λ k. w ≡ keyword_text k)
+keyword_among [] w found h = subst (λ z. MatchOption z (is_among [] w ≡ false) (λ k. w ≡ keyword_text k)) h refl
+keyword_among (k ∷ ks) w found h =
+    let rest = listed_keyword (map (λ k. (keyword_text k, k)) ks) w in
+    elim (bool_cases (bytes_eq w (keyword_text k))) [
+      | inl t ↦ subst (λ z. MatchOption z (is_among (map keyword_text (k ∷ ks)) w ≡ false) (λ k. w ≡ keyword_text k))
+          (sym (ap (λ z. if z then Some k else rest) t) ∙ h) ((bytes_eq-Decides w (keyword_text k)).0 t)
+      | inr f ↦ rw f (keyword_among ks w found (sym (ap (λ z. if z then Some k else rest) f) ∙ h))
+    ]
 
 -- where a symbol stands in the table
 place_of : Symbol → ℕ

@@ -1,5 +1,7 @@
 -- Words for the contracts of what reads single tokens.
-use Rattle.std.specs.Prelude.{◌≡◌, ◌≢◌, ℕ, ◌+◌, ◌≤◌, Bool, true, false, not, ◌&&◌, ◌||◌, ◌==◌, if◌then◌else◌, List, [], ◌∷◌, length, take, drop, slice_index, Option, Some, None}
+use Rattle.std.specs.Prelude.{◌≡◌, ◌≢◌, ℕ, ◌+◌, ◌≤◌, Bool, true, false, not, ◌&&◌, ◌||◌, ◌==◌, if◌then◌else◌, List, [], ◌∷◌, length, take, drop, slice_index, Option, Some, None, map}
+use Rattle.std.specs.Borrow.{Bor}
+use Rattle.std.specs.Str.{bytes_eq}
 use Rattle.ur_lex.specs.declared.bytes.Class.{Class}
 use Rattle.ur_lex.specs.declared.bytes.Class.TheVariants as class
 use Rattle.ur_lex.specs.declared.front.Found.{Found}
@@ -7,6 +9,7 @@ use Rattle.ur_lex.specs.declared.front.Front.{Front}
 use Rattle.ur_lex.specs.declared.front.Front.TheVariants as front
 use Rattle.ur_lex.specs.declared.mode.Mode.{Mode}
 use Rattle.ur_lex.specs.declared.pieces.Alphabet.{Alphabet}
+use Rattle.ur_lex.specs.declared.token.Keyword.{Keyword}
 use Rattle.ur_lex.specs.declared.token.Symbol.{Symbol}
 use Rattle.ur_lex.specs.declared.token.Symbol.TheVariants as symbol
 use Rattle.ur_lex.specs.declared.token.TokenKind.{TokenKind}
@@ -39,6 +42,15 @@ is_front (f ∷ fs) (b ∷ bytes) = f == b && is_front fs bytes
 abbrev pub is_symbol : Mode → Text → Symbol → Bool
 is_symbol mode bytes s = stands_in s mode && is_front (symbol_text s) bytes
 
+-- the rows of a table of keywords
+abbrev pub keywords_in : List (Bor Text × Keyword) → List (Text × Keyword)
+keywords_in = map (λ r. (r.0.now, r.1))
+
+-- the keyword that a table has for a word
+abbrev pub listed_keyword : List (Text × Keyword) → Text → Option Keyword
+listed_keyword [] word = None
+listed_keyword (r ∷ rs) word = if bytes_eq word r.0 then Some r.1 else listed_keyword rs word
+
 -- all symbols, the longest first
 abbrev pub symbols : List Symbol
 symbols = symbol.XmlEmpty ∷ symbol.XmlClose ∷ symbol.XmlOpen ∷ symbol.DoubleColon ∷ symbol.Ne ∷ symbol.Le ∷ symbol.Ge ∷ symbol.Arrow ∷ symbol.FatArrow ∷ symbol.LeftArrow ∷ symbol.DoublePlus ∷ symbol.DoubleMinus ∷ symbol.AndAnd ∷ symbol.OrOr ∷ symbol.TagClose ∷ symbol.TagEmpty ∷ symbol.LParen ∷ symbol.RParen ∷ symbol.LBracket ∷ symbol.RBracket ∷ symbol.LBrace ∷ symbol.RBrace ∷ symbol.Comma ∷ symbol.Semicolon ∷ symbol.Colon ∷ symbol.Eq ∷ symbol.Lt ∷ symbol.Gt ∷ symbol.Tilde ∷ symbol.Plus ∷ symbol.Minus ∷ symbol.Star ∷ symbol.Slash ∷ symbol.Percent ∷ symbol.Caret ∷ symbol.Dot ∷ symbol.Hash ∷ symbol.Dollar ∷ symbol.Underscore ∷ symbol.Bar ∷ []
@@ -55,6 +67,10 @@ IsLongestSymbol mode bytes s = (is_symbol mode bytes s ≡ true) × ((t : Symbol
 abbrev pub listed_piece : List (Text × Text) → Text → Option (ℕ × Text)
 listed_piece [] bytes = None
 listed_piece (p ∷ ps) bytes = if is_front p.0 bytes then Some (length p.0, p.1) else listed_piece ps bytes
+
+-- the rows of a table of texts that stand for others
+abbrev pub rows_in : List (Bor Text × Bor Text) → List (Text × Text)
+rows_in = map (λ r. (r.0.now, r.1.now))
 
 -- a byte that stands for itself
 abbrev pub plain_piece : Alphabet → Text → Option (ℕ × Text)

@@ -1,12 +1,32 @@
 //! What stands between quotes, and in XML text, piece by piece.
 ghost use Rattle.std.specs.Prelude.{◌≡◌, MatchOption, IfOk};
+ghost use Rattle.std.specs.Option.{option_map};
 ghost use Rattle.ur_lex.specs.Spelling.{is_plain, table};
-ghost use Rattle.ur_lex.specs.Scanning.{listed_piece, first_piece, IsReading};
-ghost use Rattle.ur_lex.specs.declared.pieces.Alphabet.TheVariants as alphabets;
+ghost use Rattle.ur_lex.specs.Scanning.{rows_in, listed_piece, first_piece, IsReading};
 
 use crate::bytes::begins;
 use std::alloc::Global;
 use ur_base::{List, Memory, Text};
+
+/// In a string: quotes, backslashes, LF and tab.
+const ESCAPES: [(&[u8], &[u8]); 4] = [
+    (b"\\\"", b"\""),
+    (b"\\\\", b"\\"),
+    (b"\\n", b"\n"),
+    (b"\\t", b"\t"),
+];
+
+/// In an sqltext: a quote.
+const DOUBLED_QUOTE: [(&[u8], &[u8]); 1] = [(b"''", b"'")];
+
+/// In a tag's string and in XML text. The last is U+00A0.
+const ENTITIES: [(&[u8], &[u8]); 5] = [
+    (b"&amp;", b"&"),
+    (b"&lt;", b"<"),
+    (b"&gt;", b">"),
+    (b"&quot;", b"\""),
+    (b"&nbsp;", b"\xc2\xa0"),
+];
 
 /// What a string, an sqltext, a tag's string and XML text are made of.
 #[derive(Clone, Copy, Debug, PartialEq, Eq)]
@@ -43,92 +63,30 @@ fn is_plain(alphabet: Alphabet, byte: u8) -> bool
     }
 }
 
-fn escape(bytes: &[u8]) -> Option<Piece<'_>>
-    ensures { MatchOption result (listed_piece (table alphabets.Str) bytes.now ≡ None) (λ p. listed_piece (table alphabets.Str) bytes.now ≡ Some (p.len, p.meant.now)) }
+/// The first text of a table with which the bytes begin.
+fn listed(mut table: &[(&'static [u8], &'static [u8])], bytes: &[u8]) -> Option<Piece<'static>>
+    ensures { option_map (λ p. (p.len, p.meant.now)) result ≡ listed_piece (rows_in table.entry.now) bytes.now }
 {
-    if begins(bytes, b"\\\"") {
-        return Some(Piece {
-            len: 2,
-            meant: b"\"",
-        });
-    }
-    if begins(bytes, b"\\\\") {
-        return Some(Piece {
-            len: 2,
-            meant: b"\\",
-        });
-    }
-    if begins(bytes, b"\\n") {
-        return Some(Piece {
-            len: 2,
-            meant: b"\n",
-        });
-    }
-    if begins(bytes, b"\\t") {
-        return Some(Piece {
-            len: 2,
-            meant: b"\t",
-        });
+    while let [row, rest @ ..] = table {
+        if begins(bytes, row.0) {
+            return Some(Piece {
+                len: row.0.len(),
+                meant: row.1,
+            });
+        }
+        table = rest;
     }
     None
 }
 
-fn doubled_quote(bytes: &[u8]) -> Option<Piece<'_>>
-    ensures { MatchOption result (listed_piece (table alphabets.Sql) bytes.now ≡ None) (λ p. listed_piece (table alphabets.Sql) bytes.now ≡ Some (p.len, p.meant.now)) }
-{
-    if begins(bytes, b"''") {
-        return Some(Piece {
-            len: 2,
-            meant: b"'",
-        });
-    }
-    None
-}
-
-fn entity(bytes: &[u8]) -> Option<Piece<'_>>
-    ensures { MatchOption result (listed_piece (table alphabets.Xml) bytes.now ≡ None) (λ p. listed_piece (table alphabets.Xml) bytes.now ≡ Some (p.len, p.meant.now)) }
-{
-    if begins(bytes, b"&amp;") {
-        return Some(Piece {
-            len: 5,
-            meant: b"&",
-        });
-    }
-    if begins(bytes, b"&lt;") {
-        return Some(Piece {
-            len: 4,
-            meant: b"<",
-        });
-    }
-    if begins(bytes, b"&gt;") {
-        return Some(Piece {
-            len: 4,
-            meant: b">",
-        });
-    }
-    if begins(bytes, b"&quot;") {
-        return Some(Piece {
-            len: 6,
-            meant: b"\"",
-        });
-    }
-    if begins(bytes, b"&nbsp;") {
-        return Some(Piece {
-            len: 6,
-            meant: b"\xc2\xa0",
-        });
-    }
-    None
-}
-
-fn listed(alphabet: Alphabet, bytes: &[u8]) -> Option<Piece<'_>>
-    ensures { MatchOption result (listed_piece (table alphabet) bytes.now ≡ None) (λ p. listed_piece (table alphabet) bytes.now ≡ Some (p.len, p.meant.now)) }
+/// The texts that stand for others.
+fn table(alphabet: Alphabet) -> &'static [(&'static [u8], &'static [u8])]
+    ensures { rows_in result.now ≡ table alphabet }
 {
     match alphabet {
-        Alphabet::Str => escape(bytes),
-        Alphabet::Sql => doubled_quote(bytes),
-        Alphabet::Attr => entity(bytes),
-        Alphabet::Xml => entity(bytes),
+        Alphabet::Str => &ESCAPES,
+        Alphabet::Sql => &DOUBLED_QUOTE,
+        Alphabet::Attr | Alphabet::Xml => &ENTITIES,
     }
 }
 
@@ -136,7 +94,7 @@ fn listed(alphabet: Alphabet, bytes: &[u8]) -> Option<Piece<'_>>
 fn next_piece(alphabet: Alphabet, bytes: &[u8]) -> Option<Piece<'_>>
     ensures { MatchOption result (first_piece alphabet bytes.now ≡ None) (λ p. first_piece alphabet bytes.now ≡ Some (p.len, p.meant.now)) }
 {
-    if let Some(piece) = listed(alphabet, bytes) {
+    if let Some(piece) = listed(table(alphabet), bytes) {
         return Some(piece);
     }
     if bytes.is_empty() || !is_plain(alphabet, bytes[0]) {

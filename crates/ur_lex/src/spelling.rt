@@ -1,32 +1,32 @@
 //! Keywords and symbols, and the bytes that spell them.
 ghost use Rattle.std.specs.Prelude.{◌≡◌, ◌≤◌, length, true, false, MatchOption};
 ghost use Rattle.ur_lex.specs.Spelling.{is_among, keywords, keyword_text, symbol_text, stands_in};
-ghost use Rattle.ur_lex.specs.Scanning.{is_symbol, NoSymbol, IsLongestSymbol};
+ghost use Rattle.ur_lex.specs.Scanning.{keywords_in, listed_keyword, is_symbol, NoSymbol, IsLongestSymbol};
 ghost use Rattle.ur_lex.specs.declared.token.Symbol.{Symbol};
 
 use crate::bytes::begins;
 use crate::mode::Mode;
 use crate::token::{Keyword, Symbol};
 
-const KEYWORDS: [Keyword; 18] = [
-    Keyword::And,
-    Keyword::Case,
-    Keyword::Con,
-    Keyword::Cookie,
-    Keyword::Datatype,
-    Keyword::Else,
-    Keyword::End,
-    Keyword::Fn,
-    Keyword::Fun,
-    Keyword::If,
-    Keyword::In,
-    Keyword::Let,
-    Keyword::Of,
-    Keyword::Sequence,
-    Keyword::Table,
-    Keyword::Then,
-    Keyword::Type,
-    Keyword::Val,
+const KEYWORDS: [(&[u8], Keyword); 18] = [
+    (b"and", Keyword::And),
+    (b"case", Keyword::Case),
+    (b"con", Keyword::Con),
+    (b"cookie", Keyword::Cookie),
+    (b"datatype", Keyword::Datatype),
+    (b"else", Keyword::Else),
+    (b"end", Keyword::End),
+    (b"fn", Keyword::Fn),
+    (b"fun", Keyword::Fun),
+    (b"if", Keyword::If),
+    (b"in", Keyword::In),
+    (b"let", Keyword::Let),
+    (b"of", Keyword::Of),
+    (b"sequence", Keyword::Sequence),
+    (b"table", Keyword::Table),
+    (b"then", Keyword::Then),
+    (b"type", Keyword::Type),
+    (b"val", Keyword::Val),
 ];
 
 /// The longest first.
@@ -72,31 +72,6 @@ const SYMBOLS: [Symbol; 40] = [
     Symbol::Underscore,
     Symbol::Bar,
 ];
-
-fn keyword_text(keyword: Keyword) -> &'static [u8]
-    ensures { result.now ≡ keyword_text keyword }
-{
-    match keyword {
-        Keyword::And => b"and",
-        Keyword::Case => b"case",
-        Keyword::Con => b"con",
-        Keyword::Cookie => b"cookie",
-        Keyword::Datatype => b"datatype",
-        Keyword::Else => b"else",
-        Keyword::End => b"end",
-        Keyword::Fn => b"fn",
-        Keyword::Fun => b"fun",
-        Keyword::If => b"if",
-        Keyword::In => b"in",
-        Keyword::Let => b"let",
-        Keyword::Of => b"of",
-        Keyword::Sequence => b"sequence",
-        Keyword::Table => b"table",
-        Keyword::Then => b"then",
-        Keyword::Type => b"type",
-        Keyword::Val => b"val",
-    }
-}
 
 pub fn symbol_text(symbol: Symbol) -> &'static [u8]
     ensures { result.now ≡ symbol_text symbol }
@@ -165,16 +140,24 @@ fn stands_in(symbol: Symbol, mode: Mode) -> bool
     }
 }
 
+/// What a word stands for by a table.
+fn listed(mut table: &[(&[u8], Keyword)], word: &[u8]) -> Option<Keyword>
+    ensures { result ≡ listed_keyword (keywords_in table.entry.now) word.now }
+{
+    while let [row, rest @ ..] = table {
+        if word == row.0 {
+            return Some(row.1);
+        }
+        table = rest;
+    }
+    None
+}
+
 /// The keyword that is spelled so.
 pub fn keyword(word: &[u8]) -> Option<Keyword>
     ensures { MatchOption result (is_among keywords word.now ≡ false) (λ k. word.now ≡ keyword_text k) }
 {
-    for keyword in KEYWORDS.iter() {
-        if word == keyword_text(*keyword) {
-            return Some(*keyword);
-        }
-    }
-    None
+    listed(&KEYWORDS, word)
 }
 
 /// Whether a symbol is a token of a mode and the bytes begin with it.

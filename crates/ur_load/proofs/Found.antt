@@ -11,8 +11,8 @@ use Rattle.ur_base.specs.declared.refusal.Stop.{Stop}
 use Rattle.ur_base.specs.declared.refusal.Stop.TheVariants as stop
 use Rattle.ur_io.specs.Files.{Files}
 use Rattle.ur_syntax.specs.declared.decl.Module.{Module}
-use Rattle.ur_project.specs.Words.{is_module_name}
-use Rattle.ur_project.specs.Project.{IsProject, RefusesProject, module_limit}
+use Rattle.ur_load.specs.Words.{is_module_name}
+use Rattle.ur_load.specs.Project.{IsProject, RefusesProject, module_limit}
 use Rattle.ur_load.specs.Names.{project_file, module_file, signature_file, main_of}
 use Rattle.ur_load.specs.Sources.{HasFile, IsTooLong, Lacks, NamesModules, AreThere, IsSource, AreSources, HasSignature, HasSources, HaveTrees}
 use Rattle.ur_load.specs.Refuses.{RefusesSources, RefusesFiles}

@@ -5,16 +5,16 @@ use Rattle.ur_io.specs.Files.{Files}
 use Rattle.ur_lex.proofs.Derivations.{one_list}
 use Rattle.ur_lex.specs.declared.token.Lexeme.{Lexeme}
 use Rattle.ur_lex.specs.Lexing.{IsTokens}
-use Rattle.ur_grammar.specs.Rules.{part, Spells}
+use Rattle.ur_parse_rules.specs.Rules.{part, Spells}
 use Rattle.ur_syntax.specs.declared.decl.Module.{Module as Tree}
 use Rattle.ur_syntax.specs.declared.decl.Signature.{Signature}
 use Rattle.ur_parse_rules.specs.DeclParts.{DeclPart, whole, signature}
 use Rattle.ur_parse_rules.specs.Language.{language, IsModule, IsSignature, max_nesting}
 use Rattle.ur_parse_rules.specs.Parts.{of_decl, Tree as AnyTree}
 use Rattle.ur_parse_rules.proofs.AllDecided.{one_of}
-use Rattle.ur_parse_sig.specs.Wholes.{RefusesWhole}
-use Rattle.ur_project.specs.Project.{IsProject, RefusesProject}
-use Rattle.ur_project.proofs.Laws.{one_project_of, no_project}
+use Rattle.ur_parse.specs.Wholes.{RefusesWhole}
+use Rattle.ur_load.specs.Project.{IsProject, RefusesProject}
+use Rattle.ur_load.proofs.ProjectLaws.{one_project_of, no_project}
 use Rattle.ur_load.specs.Names.{project_file, module_file, signature_file, main_of}
 use Rattle.ur_load.specs.Sources.{HasFile, IsThere, IsTooLong, Lacks, NamesModules, IsSource, AreSources, HasSignature, HasSources, HasTree, HaveTrees, HasSignatureTree, IsSignatureTree, AreSpelled, file_limit}
 use Rattle.ur_load.specs.Refuses.{RefusesTokens, RefusesSource, RefusesSources, RefusesFiles}

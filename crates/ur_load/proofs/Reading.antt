@@ -7,7 +7,7 @@ use Rattle.ur_base.specs.declared.refusal.Refusal.{Refusal}
 use Rattle.ur_base.specs.declared.refusal.Span.{Span}
 use Rattle.ur_base.specs.declared.refusal.Stop.{Stop}
 use Rattle.ur_base.specs.declared.refusal.Stop.TheVariants as stop
-use Rattle.ur_grammar.specs.Places.{IfRefused}
+use Rattle.ur_parse_rules.specs.Places.{IfRefused}
 use Rattle.ur_lex.specs.declared.token.Lexeme.{Lexeme}
 use Rattle.ur_lex.specs.Lexing.{IsTokens, ExplainsNoTokens}
 use Rattle.ur_syntax.specs.declared.decl.Module.{Module}
@@ -15,7 +15,7 @@ use Rattle.ur_syntax.specs.declared.decl.Signature.{Signature}
 use Rattle.ur_parse_rules.specs.DeclParts.{DeclPart, whole, signature}
 use Rattle.ur_parse_rules.specs.Language.{IsModule, IsSignature, max_nesting}
 use Rattle.ur_parse_rules.specs.Parts.{of_decl}
-use Rattle.ur_parse_sig.specs.Wholes.{RefusesWhole}
+use Rattle.ur_parse.specs.Wholes.{RefusesWhole}
 use Rattle.ur_load.specs.Sources.{SaysOfFile, HasTree, HaveTrees, HasSignatureTree, file_limit}
 use Rattle.ur_load.specs.Refuses.{RefusesTokens, RefusesSource}
 use Rattle.ur_load.specs.Loads.{IfRefusedIn, OnShelf, IsStopAt, TellsOf, SaysTheSame, SaysText, RefusesModules, RefusesSignature, AreSmall}

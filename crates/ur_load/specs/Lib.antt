@@ -3,3 +3,7 @@ pub mod Sources
 pub mod Refuses
 pub mod Loaded
 pub mod Loads
+pub mod Words
+pub mod Lines
+pub mod Project
+pub mod Placed

@@ -9,8 +9,8 @@ use Rattle.ur_syntax.specs.declared.decl.Module.{Module}
 use Rattle.ur_parse_rules.specs.DeclParts.{DeclPart, whole, signature}
 use Rattle.ur_parse_rules.specs.Parts.{of_decl}
 use Rattle.ur_parse_rules.specs.Language.{max_nesting}
-use Rattle.ur_parse_sig.specs.Wholes.{RefusesWhole}
-use Rattle.ur_project.specs.Project.{RefusesProject}
+use Rattle.ur_parse.specs.Wholes.{RefusesWhole}
+use Rattle.ur_load.specs.Project.{RefusesProject}
 use Rattle.ur_load.specs.Names.{project_file, module_file, signature_file, main_of}
 use Rattle.ur_load.specs.Sources.{SaysOfFile, HasFile, IsTooLong, Lacks, NamesModules, AreThere, HasSources, HaveTrees}
 use Rattle.ur_load.specs.declared.source.Source.{Source}

@@ -8,12 +8,12 @@ use Rattle.ur_lex.specs.Lexing.{IsTokens}
 use Rattle.ur_syntax.specs.declared.decl.Module.{Module}
 use Rattle.ur_syntax.specs.declared.decl.Signature.{Signature}
 use Rattle.ur_parse_rules.specs.Language.{IsModule, IsSignature, max_nesting}
-use Rattle.ur_project.specs.Project.{IsProject, module_limit}
+use Rattle.ur_load.specs.Project.{IsProject, module_limit}
 use Rattle.ur_load.specs.Names.{project_file, module_file, signature_file, main_of}
 use Rattle.ur_load.specs.declared.source.Source.{Source}
 use Rattle.ur_load.specs.declared.source.Sources.{Sources}
 
--- the greatest number of bytes of a file
+-- the greatest number of bytes of a source or project file
 abbrev pub file_limit : ℕ
 file_limit = 1048576
 

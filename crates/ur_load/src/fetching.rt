@@ -10,7 +10,7 @@ use std::alloc::Global;
 use ur_base::Bytes;
 use ur_io::{Fetched, Shelf};
 
-/// The greatest number of bytes of a file.
+/// The greatest number of bytes of a source or project file.
 pub const FILE_LIMIT: usize = 1_048_576;
 
 /// The refusal of a file that has too many bytes.

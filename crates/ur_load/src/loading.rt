@@ -3,8 +3,8 @@ ghost use Rattle.std.specs.Prelude.{◌≡◌, ◌≤◌, ◌<◌, length, IfOk,
 ghost use Rattle.std.specs.List.{list_all};
 ghost use Rattle.ur_base.specs.Counts.{Rose};
 ghost use Rattle.ur_base.specs.Told.{WhereTold};
-ghost use Rattle.ur_project.specs.Words.{is_module_name};
-ghost use Rattle.ur_project.specs.Project.{IsProject, RefusesProject, module_limit};
+ghost use Rattle.ur_load.specs.Words.{is_module_name};
+ghost use Rattle.ur_load.specs.Project.{IsProject, RefusesProject, module_limit};
 ghost use Rattle.ur_load.specs.Names.{module_file as file_of_module, signature_file as file_of_signature, main_of};
 ghost use Rattle.ur_load.specs.Sources.{IsSource, AreSources, HasSignature, HasSources, AreSpelled, NamesModules, Lacks, IsTooLong, file_limit};
 ghost use Rattle.ur_load.specs.Refuses.{RefusesFiles, RefusesSources};
@@ -13,13 +13,13 @@ ghost use Rattle.ur_load.specs.Loads.{IfRefusedIn, OnShelf, LacksModule, AreSmal
 use crate::fetching::{if_there, needed};
 use crate::files::{module_file, project_file, signature_file};
 use crate::load_end::{LoadEnd, stopped_in};
+use crate::read_project;
 use crate::source::{Source, Sources};
 use crate::trees::{signature_tree, trees_of};
 use std::alloc::Global;
 use std::str;
 use ur_base::{Bytes, List, Memory, Text};
 use ur_io::Shelf;
-use ur_project::read_project;
 use ur_syntax::{Module, Signature};
 
 /// The sources of a project, with the trees that spell them.

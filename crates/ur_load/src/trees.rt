@@ -1,6 +1,6 @@
 //! The trees that the bytes of a project's files spell.
 ghost use Rattle.std.specs.Prelude.{◌≡◌, ◌≤◌, length, IfOk};
-ghost use Rattle.ur_grammar.specs.Places.{IfRefused};
+ghost use Rattle.ur_parse_rules.specs.Places.{IfRefused};
 ghost use Rattle.ur_lex.specs.Lexing.{IsTokens};
 ghost use Rattle.ur_parse_rules.specs.DeclParts.{whole, signature};
 ghost use Rattle.ur_load.specs.Sources.{HasTree, HaveTrees, HasSignatureTree, IsSignatureTree, file_limit};
@@ -13,8 +13,7 @@ use std::alloc::Global;
 use std::str;
 use ur_base::{List, Refusal, Span, Stop, Text};
 use ur_lex::{Tokens, lex};
-use ur_parse_module::parse;
-use ur_parse_sig::parse_signature;
+use ur_parse::{parse, parse_signature};
 use ur_syntax::{Module, Signature};
 
 /// The refusal of a file that is not UTF-8.

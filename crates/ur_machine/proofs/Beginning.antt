@@ -7,12 +7,12 @@ use Rattle.ur_terms.specs.State.{State, Outcome}
 use Rattle.ur_terms.specs.Ops.{given}
 use Rattle.ur_terms.specs.Run.{Does, NeverRaises, eval, outcome_of}
 use Rattle.ur_terms.proofs.Bound.{outcome_body}
-use Rattle.ur_frames.specs.declared.frame.Frame.TheVariants as frame
-use Rattle.ur_frames.specs.Rest.{standing, resume}
-use Rattle.ur_frames.proofs.Forms.{after_done}
-use Rattle.ur_frames.specs.declared.frame.Frame.{Frame}
-use Rattle.ur_frames.specs.Rest.{outer, state_of}
-use Rattle.ur_frames.specs.Plays.{until, no_store, held}
+use Rattle.ur_machine_frames.specs.declared.frame.Frame.TheVariants as frame
+use Rattle.ur_machine_frames.specs.Rest.{standing, resume}
+use Rattle.ur_machine_frames.proofs.Forms.{after_done}
+use Rattle.ur_machine_frames.specs.declared.frame.Frame.{Frame}
+use Rattle.ur_machine_frames.specs.Rest.{outer, state_of}
+use Rattle.ur_machine_frames.specs.Plays.{until, no_store, held}
 use Rattle.ur_values.specs.declared.value.Call.{Call}
 use Rattle.ur_values.specs.Event.{Event}
 use Rattle.ur_values.specs.Store.{Store}

@@ -2,7 +2,7 @@
 use Rattle.std.proofs.Common.{◌≡◌, ◌<◌, refl, [], ◌∷◌, arith}
 use Rattle.std.proofs.lemmas.List.Elements.{All-from_recursion}
 use denote.Hole.Carrier
-use Rattle.ur_types.specs.declared.types.ValueType.TheVariants as ty
+use Rattle.ur_values.specs.declared.types.ValueType.TheVariants as ty
 use Rattle.ur_sql.specs.Typing.{QueryFits, ChangeFits}
 use Rattle.ur_terms.specs.declared.term.Term.TheBlock as block
 use Rattle.ur_terms.specs.Types.{FitsFunction, alike, xml_page}

@@ -3,8 +3,8 @@ use Rattle.std.proofs.Common.{◌≡◌, ◌≢◌, inl, inr, ℕ, zero, suc, �
 use Rattle.std.specs.Prelude.{map, slice_get}
 use Rattle.std.specs.List.{AllZip, All}
 use Rattle.std.proofs.lemmas.Int.{ints}
-use Rattle.ur_types.specs.declared.types.ValueType.{ValueType}
-use Rattle.ur_types.specs.declared.types.ValueType.TheVariants as ty
+use Rattle.ur_values.specs.declared.types.ValueType.{ValueType}
+use Rattle.ur_values.specs.declared.types.ValueType.TheVariants as ty
 use Rattle.ur_values.specs.declared.value.Value.{Value}
 use Rattle.ur_values.specs.declared.value.Value.TheVariants as v
 use Rattle.ur_values.specs.declared.schema.TableShape.{TableShape}
@@ -21,26 +21,26 @@ use Rattle.ur_terms.specs.Values.{as_items, open_items}
 use Rattle.ur_terms.specs.Ops.{given}
 use Rattle.ur_terms.specs.Run.{Does, eval, outcome_of}
 use Rattle.ur_terms.proofs.Inhabiting.{of-Many}
-use Rattle.ur_frames.specs.declared.frame.Frame.{Frame}
-use Rattle.ur_frames.specs.declared.frame.Machine as machines
-use Rattle.ur_frames.specs.declared.control.Control.{Control}
-use Rattle.ur_frames.specs.declared.control.Control.TheVariants as control
-use Rattle.ur_frames.specs.declared.control.Pause.{Pause}
-use Rattle.ur_frames.specs.declared.control.Pause.TheVariants as pause
-use Rattle.ur_frames.specs.Rest.{standing, outer, resume, state_of}
-use Rattle.ur_frames.specs.Steps.{Stands, Ends, IsDeed, IsSafe, ends}
-use Rattle.ur_frames.specs.Steps as steps
-use Rattle.ur_frames.specs.Plays.{IsLocal, until, no_store, held}
-use Rattle.ur_frames.proofs.Agreeing.{resume_agrees}
-use Rattle.ur_frames.proofs.Blind.{Blind, blind_resume}
+use Rattle.ur_machine_frames.specs.declared.frame.Frame.{Frame}
+use Rattle.ur_machine_frames.specs.declared.frame.Frames as machines
+use Rattle.ur_machine_frames.specs.declared.control.Control.{Control}
+use Rattle.ur_machine_frames.specs.declared.control.Control.TheVariants as control
+use Rattle.ur_machine_frames.specs.declared.control.Pause.{Pause}
+use Rattle.ur_machine_frames.specs.declared.control.Pause.TheVariants as pause
+use Rattle.ur_machine_frames.specs.Rest.{standing, outer, resume, state_of}
+use Rattle.ur_machine_frames.specs.Steps.{Stands, Ends, IsStoreCall, IsSafe, ends}
+use Rattle.ur_machine_frames.specs.Steps as steps
+use Rattle.ur_machine_frames.specs.Plays.{IsLocal, until, no_store, held}
+use Rattle.ur_machine_frames.proofs.Agreeing.{resume_agrees}
+use Rattle.ur_machine_frames.proofs.Blind.{Blind, blind_resume}
 use Rattle.ur_terms.proofs.Alike.{Both, both_done, both_error, both_spent, both_stuck}
 use Rattle.ur_code.specs.declared.code.Code.{Code}
 use Rattle.ur_code.specs.Links.{HasOwnCalls}
 use Rattle.ur_code.specs.Sound.{FitsState, IsOf}
 use Rattle.ur_machine.specs.declared.machine.Machine.{Machine}
 use Rattle.ur_machine.specs.Left.{begun, left, IsControl, EndsAs}
-use Rattle.ur_machine.specs.UnderWay.{KeepTypes, IsUnderWay, IsTypedDeed, IsAnswerTo, WaitsFor, Pauses, Shows, told}
-use Rattle.ur_machine.proofs.Deeds.{telling, tells, telling_keeps, until_keeps, answering, answers, agrees, answering_keeps}
+use Rattle.ur_machine.specs.UnderWay.{KeepTypes, IsUnderWay, IsTypedStoreCall, IsAnswerTo, WaitsFor, Pauses, Shows, told}
+use Rattle.ur_machine.proofs.MachineStoreCalls.{telling, tells, telling_keeps, until_keeps, answering, answers, agrees, answering_keeps}
 
 -- ---- tables of the code
 
@@ -143,11 +143,11 @@ module _ (code : Code) where
       apart : (a : ValueType) → ty.Xbody ≡ ty.Many a → ⊥
       apart a e = cc
 
-  told_typed : (o : Op) (xs carried : List Value) → Shows code o (told xs carried) → IsTypedDeed code o xs carried
+  told_typed : (o : Op) (xs carried : List Value) → Shows code o (told xs carried) → IsTypedStoreCall code o xs carried
   told_typed o xs carried (inl h) = absurd (not_body (v.Many xs ∷ v.Many carried ∷ []) h)
   told_typed o xs carried (inr (ys, bs, e, h)) =
       let same = told_same xs ys carried bs e in
-      subst (λ zs. IsTypedDeed code o zs carried) (sym same.0) (subst (λ zs. IsTypedDeed code o ys zs) (sym same.1) h)
+      subst (λ zs. IsTypedStoreCall code o zs carried) (sym same.0) (subst (λ zs. IsTypedStoreCall code o ys zs) (sym same.1) h)
 
   module _ (m : Machine) (under : IsUnderWay code m) (few : m.frames.units ≤ 4294967295) (c : Control) (from : IsControl code m c) where
     -- what is left over no rows keeps to its types
@@ -159,14 +159,14 @@ module _ (code : Code) where
         (record { store = empty_fits code.schema; numbers = empty_lasts code.schema m.frames.units few; carried = under.cookies }))
 
     -- the run comes to an operation with arguments of its types
-    pub deed_typed : (m' : machines.Machine) (r : Bor Op) (xs : List Value) → Ends code.functions m.frames c m' (pause.Deed r xs) → (IsLocal r.now → ⊥) → IsTypedDeed code r.now xs m'.carried
-    deed_typed m' r xs end deed =
+    pub store_call_typed : (m' : machines.Frames) (r : Bor Op) (xs : List Value) → Ends code.functions m.frames c m' (pause.Store r xs) → (IsLocal r.now → ⊥) → IsTypedStoreCall code r.now xs m'.carried
+    store_call_typed m' r xs end store_call =
         let s = state_of m' (empty_store code.schema) [] in
         let keeps = telling_keeps code r.now in
         told_typed r.now xs m'.carried
         (subst (Comes (λ x. IsOf code x ty.Page) (FitsState code) (Shows code r.now))
         (end (telling r.now) keeps.plays (empty_store code.schema) []
-        ∙ ap (resume (telling r.now) code.functions m'.frames m'.values) (tells r.now deed xs s)
+        ∙ ap (resume (telling r.now) code.functions m'.frames m'.values) (tells r.now store_call xs s)
         ∙ stays_error code.functions (telling r.now) m'.frames m'.values (told xs m'.carried) [])
         (typed_left r.now (telling r.now) keeps))
 
@@ -174,7 +174,7 @@ module _ (code : Code) where
     pub is_safe : IsSafe code.functions m.frames (steps.beginning code.functions c)
     is_safe stuck = under.safe (left_is code m c from until no_store [] ∙ stuck)
 
-    module _ (m' : machines.Machine) (r : Bor Op) (xs : List Value) (end : Ends code.functions m.frames c m' (pause.Deed r xs)) (deed : IsLocal r.now → ⊥) (x : Value) (units : ℕ)
+    module _ (m' : machines.Frames) (r : Bor Op) (xs : List Value) (end : Ends code.functions m.frames c m' (pause.Store r xs)) (store_call : IsLocal r.now → ⊥) (x : Value) (units : ℕ)
         (answer : IsAnswerTo code r.now x) (fewer : units < m'.units) where
       sound_after : (o : Op) (d : Does) → KeepTypes code o d → (store : Store) (events : List Event) → FitsState code (held m'.carried m'.sent store events units)
           → Comes (λ y. IsOf code y ty.Page) (FitsState code) (Shows code o) (resume d code.functions m'.frames m'.values (Done x (held m'.carried m'.sent store events units)))
@@ -184,56 +184,56 @@ module _ (code : Code) where
           let s = state_of m' (empty_store code.schema) [] in
           subst (Comes (λ y. IsOf code y ty.Page) (FitsState code) (Shows code o))
           (end (answering r.now x units store events d) all_keep.plays (empty_store code.schema) []
-          ∙ ap (resume (answering r.now x units store events d) code.functions m'.frames m'.values) (answers r.now x units store events d deed xs s fewer)
+          ∙ ap (resume (answering r.now x units store events d) code.functions m'.frames m'.values) (answers r.now x units store events d store_call xs s fewer)
           ∙ resume_agrees (answering r.now x units store events d) d all_keep.plays.units units (λ p ys t h. agrees r.now x units store events d p ys t h) code.functions m'.frames m'.values
           (Done x (held m'.carried m'.sent store events units)) (omega arith))
           (typed_left o (answering r.now x units store events d) all_keep)
 
       safe_after : m'.units ≤ 4294967295 → resume until code.functions m'.frames m'.values (Done x (held m'.carried m'.sent no_store [] units)) ≢ Stuck
       safe_after few' stuck =
-          let typed = deed_typed m' r xs end deed in
+          let typed = store_call_typed m' r xs end store_call in
           subst (Comes (λ y. IsOf code y ty.Page) (FitsState code) (Shows code op.Add))
           (anywhere_stuck code.functions m'.frames m'.values x (held m'.carried m'.sent (empty_store code.schema) [] units) stuck)
           (sound_after op.Add until (until_keeps code op.Add) (empty_store code.schema) []
           (record { store = empty_fits code.schema; numbers = empty_lasts code.schema units (omega arith); carried = typed.cookies }))
 
     -- with an answer of its type and fewer units it is under way
-    pub waits : (m' : machines.Machine) (r : Bor Op) (xs : List Value) → Ends code.functions m.frames c m' (pause.Deed r xs) → (IsLocal r.now → ⊥) → m'.units ≤ 4294967295 → (other : Option Value)
+    pub waits : (m' : machines.Frames) (r : Bor Op) (xs : List Value) → Ends code.functions m.frames c m' (pause.Store r xs) → (IsLocal r.now → ⊥) → m'.units ≤ 4294967295 → (other : Option Value)
         → WaitsFor code r.now (record { frames = m'; given = other })
-    waits m' r xs end deed few' other x units answer fewer = record {
-      cookies = (deed_typed m' r xs end deed).cookies;
-      sound = sound_after m' r xs end deed x units answer fewer;
-      safe = safe_after m' r xs end deed x units answer fewer few';
+    waits m' r xs end store_call few' other x units answer fewer = record {
+      cookies = (store_call_typed m' r xs end store_call).cookies;
+      sound = sound_after m' r xs end store_call x units answer fewer;
+      safe = safe_after m' r xs end store_call x units answer fewer few';
     }
 
     -- a page and an error's body have their types
-    pub page_typed : (m' : machines.Machine) (x : Value) → Ends code.functions m.frames c m' (pause.Page x) → IsOf code x ty.Page
+    pub page_typed : (m' : machines.Frames) (x : Value) → Ends code.functions m.frames c m' (pause.Page x) → IsOf code x ty.Page
     page_typed m' x end =
         (subst (Comes (λ y. IsOf code y ty.Page) (FitsState code) (Shows code op.Add)) (end until (until_keeps code op.Add).plays (empty_store code.schema) [])
         (typed_left op.Add until (until_keeps code op.Add))).0
 
-    no_number : (q : ℕ) (xs carried : List Value) → length code.schema.sequences ≤ q → IsTypedDeed code (op.Next q) xs carried → ⊥
+    no_number : (q : ℕ) (xs carried : List Value) → length code.schema.sequences ≤ q → IsTypedStoreCall code (op.Next q) xs carried → ⊥
     no_number q xs carried past h = let below : q < length code.schema.sequences = h.has.1 in omega arith
 
     body_typed_as : (x : Value) → Shows code (op.Next (length code.schema.sequences)) x → IsOf code x ty.Xbody
     body_typed_as x (inl h) = h
     body_typed_as x (inr (xs, carried, e, h)) = absurd (no_number (length code.schema.sequences) xs carried (omega arith) h)
 
-    pub body_typed : (m' : machines.Machine) (x : Value) → Ends code.functions m.frames c m' (pause.Failed x) → IsOf code x ty.Xbody
+    pub body_typed : (m' : machines.Frames) (x : Value) → Ends code.functions m.frames c m' (pause.Failed x) → IsOf code x ty.Xbody
     body_typed m' x end =
         let o = op.Next (length code.schema.sequences) in
         body_typed_as x (subst (Comes (λ y. IsOf code y ty.Page) (FitsState code) (Shows code o)) (end until (until_keeps code o).plays (empty_store code.schema) [])
         (typed_left o until (until_keeps code o)))
 
-    pub pauses : (m' : machines.Machine) (other : Option Value) (p : Pause) → m'.units ≤ 4294967295 → Ends code.functions m.frames c m' p → IsDeed p → Pauses code (record { frames = m'; given = other }) p
-    pauses m' other (pause.Page x) few' end deed = page_typed m' x end
-    pauses m' other (pause.Failed x) few' end deed = body_typed m' x end
-    pauses m' other pause.Spent few' end deed = tt
-    pauses m' other (pause.Deed r xs) few' end deed = (deed, deed_typed m' r xs end deed, waits m' r xs end deed few' other)
-    pauses m' other pause.Memory few' end deed = tt
+    pub pauses : (m' : machines.Frames) (other : Option Value) (p : Pause) → m'.units ≤ 4294967295 → Ends code.functions m.frames c m' p → IsStoreCall p → Pauses code (record { frames = m'; given = other }) p
+    pauses m' other (pause.Page x) few' end store_call = page_typed m' x end
+    pauses m' other (pause.Failed x) few' end store_call = body_typed m' x end
+    pauses m' other pause.Spent few' end store_call = tt
+    pauses m' other (pause.Store r xs) few' end store_call = (store_call, store_call_typed m' r xs end store_call, waits m' r xs end store_call few' other)
+    pauses m' other pause.Memory few' end store_call = tt
 
     -- what is left of the machine is what is left from where it goes on
-    pub ends_as : (m' : machines.Machine) (other : Option Value) (p : Pause) → Ends code.functions m.frames c m' p → EndsAs code m (record { frames = m'; given = other }) p
+    pub ends_as : (m' : machines.Frames) (other : Option Value) (p : Pause) → Ends code.functions m.frames c m' p → EndsAs code m (record { frames = m'; given = other }) p
     ends_as m' other p end d plays store events =
         let e = left_is code m c from d store events in
         e ∙ subst (λ w. steps.left d code.functions m.frames c store events ≡ ends d code.functions m' p w store events) (sym e) (end d plays store events)

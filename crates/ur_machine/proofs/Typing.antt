@@ -4,8 +4,8 @@ use Rattle.std.specs.Prelude.{map, option_map, slice_get}
 use Rattle.std.specs.List.{AllZip}
 use Rattle.std.proofs.lemmas.Option.{slice_get-map}
 use Rattle.std.proofs.lemmas.List.Elements.{recursion_from_All}
-use Rattle.ur_types.specs.declared.types.ValueType.{ValueType}
-use Rattle.ur_types.specs.declared.types.ValueType.TheVariants as ty
+use Rattle.ur_values.specs.declared.types.ValueType.{ValueType}
+use Rattle.ur_values.specs.declared.types.ValueType.TheVariants as ty
 use Rattle.ur_values.specs.declared.value.Value.{Value}
 use Rattle.ur_values.specs.declared.value.Call.{Call}
 use Rattle.ur_values.specs.Event.{Event}
@@ -19,9 +19,9 @@ use Rattle.ur_terms.specs.Ops.{does}
 use Rattle.ur_terms.specs.Run.{Does, joined}
 use Rattle.ur_terms.proofs.Typed.{typed_outcome}
 use Rattle.ur_terms.proofs.TypedDeeds.{typing}
-use Rattle.ur_frames.specs.Plays.{Plays, IsLocal, until, no_store, held}
-use Rattle.ur_frames.proofs.Playing.{until_plays, does_plays}
-use Rattle.ur_frames.proofs.Blind.{anywhere}
+use Rattle.ur_machine_frames.specs.Plays.{Plays, IsLocal, until, no_store, held}
+use Rattle.ur_machine_frames.proofs.Playing.{until_plays, does_plays}
+use Rattle.ur_machine_frames.proofs.Blind.{anywhere}
 use Rattle.ur_code.specs.declared.code.Code.{Code}
 use Rattle.ur_code.specs.RouteTypes.{route_params, IsRequestOf}
 use Rattle.ur_code.specs.Meaning.{code_sql}
@@ -33,7 +33,7 @@ use Rattle.ur_code.proofs.Unstuck.{own, V, kept, route_at, keeps_xml, keeps_tabl
 use Rattle.ur_machine.specs.declared.machine.Machine.{Machine}
 use Rattle.ur_machine.specs.Left.{left, at_target}
 use Rattle.ur_machine.specs.UnderWay.{KeepTypes, IsUnderWay, Shows}
-use Rattle.ur_machine.proofs.Deeds.{until_keeps}
+use Rattle.ur_machine.proofs.MachineStoreCalls.{until_keeps}
 use Rattle.ur_machine.proofs.Running.{empty_fits, empty_lasts}
 
 local_or : (o : Op) → IsLocal o ⊎ (IsLocal o → ⊥)

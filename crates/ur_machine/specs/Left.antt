@@ -9,12 +9,12 @@ use Rattle.ur_terms.specs.declared.term.Function.{Function}
 use Rattle.ur_terms.specs.State.{State, Outcome, Done, Stuck}
 use Rattle.ur_terms.specs.Ops.{given}
 use Rattle.ur_terms.specs.Run.{Does, eval, outcome_of}
-use Rattle.ur_frames.specs.declared.control.Control.{Control}
-use Rattle.ur_frames.specs.declared.control.Control.TheVariants as control
-use Rattle.ur_frames.specs.declared.control.Pause.{Pause}
-use Rattle.ur_frames.specs.Rest.{standing, resume, state_of}
-use Rattle.ur_frames.specs.Steps.{ends}
-use Rattle.ur_frames.specs.Plays.{Plays, held}
+use Rattle.ur_machine_frames.specs.declared.control.Control.{Control}
+use Rattle.ur_machine_frames.specs.declared.control.Control.TheVariants as control
+use Rattle.ur_machine_frames.specs.declared.control.Pause.{Pause}
+use Rattle.ur_machine_frames.specs.Rest.{standing, resume, state_of}
+use Rattle.ur_machine_frames.specs.Steps.{ends}
+use Rattle.ur_machine_frames.specs.Plays.{Plays, held}
 use Rattle.ur_code.specs.declared.code.Code.{Code}
 use Rattle.ur_machine.specs.declared.machine.Machine.{Machine}
 use Rattle.ur_machine.specs.Cookies.{carried}

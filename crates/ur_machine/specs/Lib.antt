@@ -2,3 +2,13 @@ pub mod Cookies
 pub mod Left
 pub mod UnderWay
 pub mod Sample
+pub mod Answers
+pub mod Laws
+pub mod Stops
+pub mod Caching
+pub mod Reading
+pub mod TurnsCookies
+pub mod Ready
+pub mod Changing
+pub mod StoreCalls
+pub mod Turning

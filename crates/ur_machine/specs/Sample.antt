@@ -1,6 +1,6 @@
 -- A small program.
 use Rattle.std.specs.Prelude.{true, false, [], ◌∷◌, codes}
-use Rattle.ur_types.specs.declared.types.ValueType.TheVariants as ty
+use Rattle.ur_values.specs.declared.types.ValueType.TheVariants as ty
 use Rattle.ur_values.specs.declared.value.Call.{Call}
 use Rattle.ur_tags.specs.declared.routes.Route.{Route}
 use Rattle.ur_terms.specs.declared.term.Function.{Function}

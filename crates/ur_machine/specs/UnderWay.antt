@@ -1,8 +1,8 @@
 -- A machine that is under way in code that fits: what is left of its run keeps to its types.
 use Rattle.std.specs.Prelude.{◌≡◌, ◌≢◌, ◌<◌, ◌⊎◌, ℕ, List, [], ◌∷◌}
 use Rattle.std.specs.List.{AllZip}
-use Rattle.ur_types.specs.declared.types.ValueType.{ValueType}
-use Rattle.ur_types.specs.declared.types.ValueType.TheVariants as ty
+use Rattle.ur_values.specs.declared.types.ValueType.{ValueType}
+use Rattle.ur_values.specs.declared.types.ValueType.TheVariants as ty
 use Rattle.ur_values.specs.declared.value.Value.{Value}
 use Rattle.ur_values.specs.declared.value.Value.TheVariants as v
 use Rattle.ur_values.specs.Event.{Event}
@@ -12,10 +12,10 @@ use Rattle.ur_terms.specs.State.{State, Stuck}
 use Rattle.ur_terms.specs.Types.{OpType}
 use Rattle.ur_terms.specs.Sound.{Comes}
 use Rattle.ur_terms.specs.Run.{Does}
-use Rattle.ur_frames.specs.declared.control.Pause.{Pause}
-use Rattle.ur_frames.specs.declared.control.Pause.TheVariants as pause
-use Rattle.ur_frames.specs.Rest.{state_of}
-use Rattle.ur_frames.specs.Plays.{Plays, IsLocal, until, no_store}
+use Rattle.ur_machine_frames.specs.declared.control.Pause.{Pause}
+use Rattle.ur_machine_frames.specs.declared.control.Pause.TheVariants as pause
+use Rattle.ur_machine_frames.specs.Rest.{state_of}
+use Rattle.ur_machine_frames.specs.Plays.{Plays, IsLocal, until, no_store}
 use Rattle.ur_code.specs.declared.code.Code.{Code}
 use Rattle.ur_code.specs.Fits.{signature}
 use Rattle.ur_code.specs.Sound.{FitsState, FitsCookie, IsOf}
@@ -23,7 +23,7 @@ use Rattle.ur_machine.specs.declared.machine.Machine.{Machine}
 use Rattle.ur_machine.specs.Left.{left, given_to}
 
 -- an operation comes with arguments of its types, and with cookies of their kinds
-pub record IsTypedDeed (code : Code) (o : Op) (xs carried : List Value) : Type 0 where
+pub record IsTypedStoreCall (code : Code) (o : Op) (xs carried : List Value) : Type 0 where
   pub types : List ValueType
   pub result : ValueType
   pub has : OpType (signature code) o types result
@@ -36,7 +36,7 @@ told xs carried = v.Many (v.Many xs ∷ v.Many carried ∷ [])
 
 -- XML, or what tells of the operation with arguments of its types
 abbrev pub Shows : Code → Op → Value → Type 0
-Shows code o x = IsOf code x ty.Xbody ⊎ ((xs : List Value) × (carried : List Value) × (x ≡ told xs carried) × IsTypedDeed code o xs carried)
+Shows code o x = IsOf code x ty.Xbody ⊎ ((xs : List Value) × (carried : List Value) × (x ≡ told xs carried) × IsTypedStoreCall code o xs carried)
 
 -- Operations that do as the table says where they need no tables, and keep to their types where they do: those of the tables
 -- themselves, those that stop there, and those that give any typed answer. An error may tell of one operation.
@@ -67,5 +67,5 @@ abbrev pub Pauses : Code → Machine → Pause → Type 0
 Pauses code m (pause.Page x) = IsOf code x ty.Page
 Pauses code m (pause.Failed body) = IsOf code body ty.Xbody
 Pauses code m pause.Spent = Unit {0}
-Pauses code m (pause.Deed o xs) = (IsLocal o.now → ⊥) × IsTypedDeed code o.now xs m.frames.carried × WaitsFor code o.now m
+Pauses code m (pause.Store o xs) = (IsLocal o.now → ⊥) × IsTypedStoreCall code o.now xs m.frames.carried × WaitsFor code o.now m
 Pauses code m pause.Memory = Unit {0}

@@ -1,8 +1,21 @@
-//! A request's run, from its call to each query, change or draw and on from there.
+//! A request's run over a keeper of tables, from its call turn by turn through each query, change or draw; and what a
+//! cache of answers is to a program.
 #![tactic(auto)]
 
+mod calls;
 mod cookies;
+mod law;
 mod machine;
+mod queries;
+mod stop;
+mod store_calls;
+mod turn;
+mod turns_calls;
+mod turns_cookies;
+mod writes;
 
+pub use calls::{add_masks, atoms_of, held_rows, keep_rows};
 pub use cookies::first_value;
+pub use law::{answers_are_kept, patterns_are_sound};
 pub use machine::Machine;
+pub use turn::Turn;

@@ -9,13 +9,13 @@ use crate::cookies::carried;
 use std::alloc::Global;
 use ur_base::{List, Memory, Text};
 use ur_code::Code;
-use ur_frames::{Control, Frame, Operations, Pause, Stack};
+use ur_machine_frames::{Control, Frame, Operations, Pause, Stack};
 use ur_values::{Call, Value};
 
 /// A run of one request. `given` is the value that the last query, change or draw gave.
 #[derive(Drop)]
 pub struct Machine {
-    pub frames: ur_frames::Machine,
+    pub frames: ur_machine_frames::Frames,
     pub given: Option<Value>,
 }
 
@@ -45,7 +45,7 @@ impl Machine {
         values.push_all(args)?;
         let sent = List::new(alloc);
         Ok(Machine {
-            frames: ur_frames::Machine {
+            frames: ur_machine_frames::Frames {
                 frames,
                 values,
                 carried,
@@ -68,6 +68,7 @@ impl Machine {
         ensures pauses { Pauses code.now self.new result }
         ensures units { self.new.frames.units ≤ self.old.frames.units }
     {
+        // The clause `bound` of `units` is wanted, and not the number.
         self.units();
         let control = self.control(code);
         let pause = self

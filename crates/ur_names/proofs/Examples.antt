@@ -5,10 +5,10 @@ use Rattle.ur_syntax.specs.declared.exp.Binder.TheVariants as binder
 use Rattle.ur_syntax.specs.declared.exp.PatForm.TheVariants as pat
 use Rattle.ur_syntax.specs.declared.exp.ExpForm.TheVariants as e
 use Rattle.ur_syntax.specs.declared.con.ConForm.TheVariants as con
-use Rattle.ur_uses.specs.declared.event.Sort.TheVariants as sort
-use Rattle.ur_uses.specs.declared.event.Event.TheVariants as event
-use Rattle.ur_uses.specs.Cons.{in_con}
-use Rattle.ur_uses.specs.Exps.{in_exp, in_pat_form}
+use Rattle.ur_names.specs.declared.event.Sort.TheVariants as sort
+use Rattle.ur_names.specs.declared.event.Event.TheVariants as event
+use Rattle.ur_names.specs.Cons.{in_con}
+use Rattle.ur_names.specs.Exps.{in_exp, in_pat_form}
 use Rattle.ur_names.specs.Faults.{fault_in, start, unknown, repeated}
 
 -- a variable that nothing binds

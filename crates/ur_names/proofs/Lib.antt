@@ -1,3 +1,9 @@
+mod Chains
+mod ConShapes
+mod ExpShapes
+mod Pieces
+mod Projects
+mod TextShapes
 mod Examples
 mod Indexing
 mod Reaching

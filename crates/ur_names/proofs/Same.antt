@@ -4,7 +4,7 @@ use Rattle.std.specs.Prelude.{bytes_eq}
 use Rattle.std.specs.List.{list_any}
 use Rattle.std.specs.Option.{option_eq}
 use Rattle.ur_syntax.specs.Names.{same_module}
-use Rattle.ur_uses.specs.declared.event.Sort.{Sort}
+use Rattle.ur_names.specs.declared.event.Sort.{Sort}
 use Rattle.ur_names.specs.declared.keys.Key.{Key}
 use Rattle.ur_names.specs.declared.spots.Spot.{Spot}
 use Rattle.ur_names.specs.contracts.spots.SpotOrd.TheImpl.Laws as laws

@@ -4,7 +4,7 @@ use Rattle.std.specs.Result.{IsErrAnd}
 use Rattle.std.proofs.Math.Seq.{drop-cons, drop-length}
 use Rattle.ur_base.specs.declared.refusal.Stop.{Stop}
 use Rattle.ur_base.specs.declared.refusal.Stop.TheVariants as stop
-use Rattle.ur_uses.specs.declared.event.Event.{Event}
+use Rattle.ur_names.specs.declared.event.Event.{Event}
 use Rattle.ur_names.specs.declared.keys.Key.{Key}
 use Rattle.ur_names.specs.declared.scope.Frame.{Frame}
 use Rattle.ur_names.specs.declared.scope.Scope.{Scope}

@@ -9,15 +9,15 @@ use Rattle.ur_base.specs.declared.refusal.Stop.TheVariants as stop
 use Rattle.ur_syntax.specs.declared.decl.Module.{Module}
 use Rattle.ur_syntax.specs.declared.decl.Signature.{Signature}
 use Rattle.ur_syntax.specs.Names.{same_module, name_text}
-use Rattle.ur_uses.specs.declared.event.Sort.{Sort}
-use Rattle.ur_uses.specs.declared.event.Sort.TheVariants as sort
-use Rattle.ur_uses.specs.declared.event.Event.{Event}
-use Rattle.ur_uses.specs.declared.event.Event.TheVariants as event
+use Rattle.ur_names.specs.declared.event.Sort.{Sort}
+use Rattle.ur_names.specs.declared.event.Sort.TheVariants as sort
+use Rattle.ur_names.specs.declared.event.Event.{Event}
+use Rattle.ur_names.specs.declared.event.Event.TheVariants as event
 use Rattle.ur_names.specs.Sorts.{same_sort}
 use Rattle.ur_names.specs.declared.keys.Key.{Key}
 use Rattle.ur_names.specs.declared.scope.Frame.{Frame}
 use Rattle.ur_names.specs.declared.scope.Scope.{Scope}
-use Rattle.ur_uses.specs.Decls.{in_project}
+use Rattle.ur_names.specs.Decls.{in_project}
 
 abbrev pub key : Sort → Option (List ℕ) → List ℕ → Key
 key s m x = record { sort = s; home = m; name = x }
@@ -124,13 +124,13 @@ abbrev pub fault_of : List (List ℕ) → List Module → Option Signature → O
 fault_of names modules signature = fault_in start (in_project names modules signature)
 
 -- how a fault is told, and where
-abbrev pub Tells : Refusal → Fault → Type 0
-Tells r (unknown p x) = Says r 7 x [] × (r.span ≡ p)
-Tells r (repeated p x) = Says r 8 x [] × (r.span ≡ p)
+abbrev pub TellsName : Refusal → Fault → Type 0
+TellsName r (unknown p x) = Says r 7 x [] × (r.span ≡ p)
+TellsName r (repeated p x) = Says r 8 x [] × (r.span ≡ p)
 
 -- Ok says that there is no fault, and a refusal tells it
 abbrev pub Told : Result (Unit {0}) Stop → Option Fault → Type 0
 Told (Ok a) o = o ≡ None
-Told (Err (stop.Refused r)) (Some f) = Tells r f
+Told (Err (stop.Refused r)) (Some f) = TellsName r f
 Told (Err (stop.Refused r)) None = ⊥
 Told (Err stop.Memory) o = ⊤

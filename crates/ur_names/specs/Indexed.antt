@@ -3,7 +3,7 @@ use Rattle.std.specs.Prelude.{◌≡◌, ℕ, zero, suc, Bool, true, false, List
 use Rattle.std.specs.declared.cmp.Ordering.{Ordering}
 use Rattle.std.specs.Ordering.{eq_by_cmp}
 use Rattle.std.specs.BTreeMap.{BTreeMap, get}
-use Rattle.ur_uses.specs.declared.event.Sort.{Sort}
+use Rattle.ur_names.specs.declared.event.Sort.{Sort}
 use Rattle.ur_names.specs.declared.keys.Key.{Key}
 use Rattle.ur_names.specs.declared.keys.Entry.{Entry}
 use Rattle.ur_names.specs.declared.spots.Spot.{Spot}

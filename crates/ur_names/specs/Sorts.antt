@@ -1,7 +1,7 @@
 -- Sorts of names as numbers.
 use Rattle.std.specs.Prelude.{ℕ, nat_eq, Bool}
-use Rattle.ur_uses.specs.declared.event.Sort.{Sort}
-use Rattle.ur_uses.specs.declared.event.Sort.TheVariants as sort
+use Rattle.ur_names.specs.declared.event.Sort.{Sort}
+use Rattle.ur_names.specs.declared.event.Sort.TheVariants as sort
 
 abbrev pub sort_number : Sort → ℕ
 sort_number sort.Con = 0

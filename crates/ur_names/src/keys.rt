@@ -4,12 +4,12 @@ ghost use Rattle.std.specs.List.{list_any};
 ghost use Rattle.std.specs.BTreeMap.{get, Updates};
 ghost use Rattle.ur_names.specs.Indexed.{spot_cmp, same_spot, keys_of, IsIndexed};
 
+use crate::Sort;
 use crate::spots::{Spot, into_spot, spot_of};
 use std::alloc::Global;
 use std::collections::BTreeMap;
 use std::marker::Model;
 use ur_base::{List, Memory, Text};
-use ur_uses::Sort;
 
 /// A name of a sort, with its module where it is declared.
 #[derive(Drop)]

@@ -3,11 +3,11 @@ ghost use Rattle.std.specs.Prelude.{◌≡◌, length};
 ghost use Rattle.std.specs.Option.{option_copied};
 ghost use Rattle.ur_names.specs.Faults.{Told, fault_of};
 
+use crate::events;
 use crate::scope::find;
 use std::alloc::Global;
 use ur_base::{Stop, Text};
 use ur_syntax::{Module, Signature};
-use ur_uses::events;
 
 /// Whether each name that a project uses is in scope, and none is given twice where once is allowed. Otherwise the
 /// first name, in order of modules and place, for which that is not so: E07 or E08.

@@ -3,14 +3,14 @@ ghost use Rattle.std.specs.Prelude.{◌≡◌, [], OnOk, IfOk, Some, None, bytes
 ghost use Rattle.ur_base.specs.Stopping.{Says};
 ghost use Rattle.ur_syntax.specs.Names.{name_text};
 ghost use Rattle.std.specs.List.{list_any};
-ghost use Rattle.ur_uses.specs.declared.event.Event.TheVariants as event;
+ghost use Rattle.ur_names.specs.declared.event.Event.TheVariants as event;
 ghost use Rattle.ur_names.specs.Faults.{is_local, is_member, has_own, knows_own, knows_member, is_given, is_known_word, is_type_word, last_frame, given_before, after, key, form_fault, fault_at, fault_in, Told, start};
 
 use crate::keys::{Key, Keys, cut};
 use crate::spots::{local_spot, member_spot};
+use crate::{Event, Sort};
 use std::alloc::Global;
 use ur_base::{List, Memory, Refusal, Span, Stop, Text};
-use ur_uses::{Event, Sort};
 
 /// How many names were bound and given where a scope begins.
 #[derive(Clone, Copy)]

@@ -3,10 +3,10 @@ ghost use Rattle.std.specs.Prelude.{◌≡◌, Some, None, IfOk};
 ghost use Rattle.ur_names.specs.Sorts.{sort_number};
 ghost use Rattle.ur_names.specs.Indexed.{spot_of, spot};
 
+use crate::Sort;
 use crate::keys::Key;
 use std::alloc::Global;
 use ur_base::{List, Memory, Text};
-use ur_uses::Sort;
 
 /// A key with its sort as a number. Spots are in the order of the sorts, then of the modules, then of the names.
 #[derive(Drop, PartialEq, Eq, PartialOrd, Ord)]

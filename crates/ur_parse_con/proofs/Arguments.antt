@@ -8,12 +8,12 @@ use Rattle.ur_base.specs.Stopping.{Says}
 use Rattle.ur_lex.specs.declared.token.Lexeme.{Lexeme}
 use Rattle.ur_syntax.specs.declared.con.ConForm.TheVariants as form
 use Rattle.ur_syntax.specs.declared.con.Con.{Con}
-use Rattle.ur_grammar.specs.Rules.{Read, Refused, no_span, Stops, Sym, AnyOf, Builds, Spells, part}
-use Rattle.ur_grammar.specs.Places.{Moves, span_of, starts}
-use Rattle.ur_grammar.proofs.Inversions.{produced-out, nothing-out}
-use Rattle.ur_grammar.proofs.Tokens.{covers}
-use Rattle.ur_grammar.proofs.Steps.{Leads, nothing, an_one, one_read, one_refused, reads_by, refused_by, leads_here, never_fits, not_allowed}
-use Rattle.ur_grammar.proofs.Choices.{first_stops, stops_first}
+use Rattle.ur_parse_rules.specs.Rules.{Read, Refused, no_span, Stops, Sym, AnyOf, Builds, Spells, part}
+use Rattle.ur_parse_rules.specs.Places.{Moves, span_of, starts}
+use Rattle.ur_parse_rules.proofs.Inversions.{produced-out, nothing-out}
+use Rattle.ur_parse_rules.proofs.Tokens.{covers}
+use Rattle.ur_parse_rules.proofs.Steps.{Leads, nothing, an_one, one_read, one_refused, reads_by, refused_by, leads_here, never_fits, not_allowed}
+use Rattle.ur_parse_rules.proofs.Choices.{first_stops, stops_first}
 use Rattle.ur_parse_rules.specs.Classes.{member}
 use Rattle.ur_parse_rules.specs.ConParts.{app, args, arg, atom}
 use Rattle.ur_parse_rules.specs.Constructors.{applied, is_whole, may_take}

@@ -14,16 +14,16 @@ use Rattle.ur_syntax.specs.declared.con.FieldName.TheVariants as names
 use Rattle.ur_syntax.specs.declared.con.Con.{Con}
 use Rattle.ur_syntax.specs.declared.con.CField.{CField}
 use Rattle.ur_syntax.specs.declared.con.RecordField.{RecordField}
-use Rattle.ur_grammar.specs.Rules.{Read, Refused, no_span, syntax, Stops}
-use Rattle.ur_grammar.specs.Places.{Moves, IsAt, IsName, Other, OfKind, Passing, Unexpected, any, span_of}
-use Rattle.ur_grammar.proofs.Tokens.{covers}
-use Rattle.ur_grammar.proofs.Steps.{nothing, a_mark, a_name, an_one, mark_read, name_read, one_read, one_refused, no_mark, no_name, not_mark, not_name, any_other, not_allowed, reads_by, refused_by, none_of}
-use Rattle.ur_grammar.proofs.Choices.{chosen_mark_at, chosen_name_at, if_true}
+use Rattle.ur_parse_rules.specs.Rules.{Read, Refused, no_span, syntax, Stops}
+use Rattle.ur_parse_rules.specs.Places.{Moves, IsAt, IsName, Other, OfKind, Passing, Unexpected, any, span_of}
+use Rattle.ur_parse_rules.proofs.Tokens.{covers}
+use Rattle.ur_parse_rules.proofs.Steps.{nothing, a_mark, a_name, an_one, mark_read, name_read, one_read, one_refused, no_mark, no_name, not_mark, not_name, any_other, not_allowed, reads_by, refused_by, none_of}
+use Rattle.ur_parse_rules.proofs.Choices.{chosen_mark_at, chosen_name_at, if_true}
 use Rattle.ur_parse_rules.specs.Classes.{member}
 use Rattle.ur_parse_rules.specs.ConParts.{kind, con, arrow, atom, row, fields, field_name}
 use Rattle.ur_parse_rules.specs.Constructors.{is_whole, is_beside, keys_of, within}
-use Rattle.ur_parse_rules.specs.declared.place.ConPlace.{ConPlace}
-use Rattle.ur_parse_rules.specs.declared.place.ConPlace.TheVariants as places
+use Rattle.ur_parse_rules.specs.declared.parse_rules_place.ConPlace.{ConPlace}
+use Rattle.ur_parse_rules.specs.declared.parse_rules_place.ConPlace.TheVariants as places
 use Rattle.ur_parse_rules.specs.Words.{is_field, is_free}
 use Rattle.ur_parse_rules.specs.Ends.{con_more}
 use Rattle.ur_parse_rules.specs.Parts.{of_con}

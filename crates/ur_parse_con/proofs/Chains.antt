@@ -7,10 +7,10 @@ use Rattle.ur_lex.specs.declared.token.TokenKind.TheVariants as token
 use Rattle.ur_lex.specs.declared.token.Lexeme.{Lexeme}
 use Rattle.ur_syntax.specs.declared.kind.Kind.{Kind}
 use Rattle.ur_syntax.specs.declared.kind.Kind.TheVariants as kinds
-use Rattle.ur_grammar.specs.Rules.{Stops, no_span, Read, Refused}
-use Rattle.ur_grammar.specs.Places.{IsAt, Other, OfKind, only}
-use Rattle.ur_grammar.proofs.Steps.{Leads, nothing, a_mark, an_one, mark_read, one_read, one_refused, reads_by, refused_by}
-use Rattle.ur_grammar.proofs.Choices.{chosen_mark_at, other_stops}
+use Rattle.ur_parse_rules.specs.Rules.{Stops, no_span, Read, Refused}
+use Rattle.ur_parse_rules.specs.Places.{IsAt, Other, OfKind, only}
+use Rattle.ur_parse_rules.proofs.Steps.{Leads, nothing, a_mark, an_one, mark_read, one_read, one_refused, reads_by, refused_by}
+use Rattle.ur_parse_rules.proofs.Choices.{chosen_mark_at, other_stops}
 use Rattle.ur_parse_rules.specs.ConParts.{kind, kind_atom, kind_tail}
 use Rattle.ur_parse_rules.specs.Parts.{of_con}
 use Rattle.ur_parse_rules.specs.Language.{language}

@@ -5,13 +5,13 @@ use Rattle.ur_lex.specs.declared.token.Keyword.TheVariants as keyword
 use Rattle.ur_lex.specs.declared.token.Symbol.TheVariants as symbol
 use Rattle.ur_lex.specs.declared.token.TokenKind.TheVariants as token
 use Rattle.ur_lex.specs.declared.token.Lexeme.{Lexeme}
-use Rattle.ur_grammar.specs.Rules.{Stops}
-use Rattle.ur_grammar.specs.Places.{Other, OfKind, starts}
-use Rattle.ur_grammar.proofs.Choices.{if_true, if_false}
+use Rattle.ur_parse_rules.specs.Rules.{Stops}
+use Rattle.ur_parse_rules.specs.Places.{Other, OfKind, starts}
+use Rattle.ur_parse_rules.proofs.Choices.{if_true, if_false}
 use Rattle.ur_parse_rules.specs.Classes.{member, all_of, keyword_class}
 use Rattle.ur_parse_rules.specs.ConParts.{con, arrow, concat, app, args, arg, row, row_field, row_value, fields, record_field}
-use Rattle.ur_parse_rules.specs.declared.place.ConPlace.{ConPlace}
-use Rattle.ur_parse_rules.specs.declared.place.ConPlace.TheVariants as places
+use Rattle.ur_parse_rules.specs.declared.parse_rules_place.ConPlace.{ConPlace}
+use Rattle.ur_parse_rules.specs.declared.parse_rules_place.ConPlace.TheVariants as places
 use Rattle.ur_parse_rules.specs.Constructors.{keys_of, within}
 use Rattle.ur_parse_rules.specs.Parts.{of_con}
 use Rattle.ur_parse_rules.specs.Ends.{con_args}

@@ -10,12 +10,12 @@ use Rattle.ur_lex.specs.declared.token.TokenKind.TheVariants as token
 use Rattle.ur_lex.specs.declared.token.Lexeme.{Lexeme}
 use Rattle.ur_syntax.specs.declared.con.ConForm.{out-ConForm}
 use Rattle.ur_syntax.specs.declared.con.Con.{Con}
-use Rattle.ur_grammar.specs.Rules.{Stops, no_span, Read, Refused, Sym, AnyOf, Builds, Spells, part}
-use Rattle.ur_grammar.specs.Places.{Moves, IsAt, Other, OfKind, span_of, starts}
-use Rattle.ur_grammar.proofs.Inversions.{produced-out, nothing-out}
-use Rattle.ur_grammar.proofs.Tokens.{covers}
-use Rattle.ur_grammar.proofs.Steps.{nothing, a_mark, an_one, mark_read, one_read, one_refused, reads_by, refused_by, never_fits, not_allowed}
-use Rattle.ur_grammar.proofs.Choices.{chosen_mark_at, stops_first, starts_at}
+use Rattle.ur_parse_rules.specs.Rules.{Stops, no_span, Read, Refused, Sym, AnyOf, Builds, Spells, part}
+use Rattle.ur_parse_rules.specs.Places.{Moves, IsAt, Other, OfKind, span_of, starts}
+use Rattle.ur_parse_rules.proofs.Inversions.{produced-out, nothing-out}
+use Rattle.ur_parse_rules.proofs.Tokens.{covers}
+use Rattle.ur_parse_rules.proofs.Steps.{nothing, a_mark, an_one, mark_read, one_read, one_refused, reads_by, refused_by, never_fits, not_allowed}
+use Rattle.ur_parse_rules.proofs.Choices.{chosen_mark_at, stops_first, starts_at}
 use Rattle.ur_parse_rules.specs.Classes.{member, symbol_class}
 use Rattle.ur_parse_rules.specs.ConParts.{arrow, arrow_tail, concat, concat_tail, app}
 use Rattle.ur_parse_rules.specs.Constructors.{is_whole, may_have}

@@ -12,13 +12,13 @@ use Rattle.ur_syntax.specs.declared.con.Con.{Con}
 use Rattle.ur_syntax.specs.declared.con.CField.{CField}
 use Rattle.ur_syntax.specs.declared.con.CField.TheVariants as cfield
 use Rattle.ur_syntax.specs.declared.con.RecordField.{RecordField}
-use Rattle.ur_grammar.specs.Rules.{Read, Refused, no_span, syntax, Stops}
-use Rattle.ur_grammar.specs.Places.{IsAt, Other, OfKind, Unexpected, starts}
-use Rattle.ur_grammar.proofs.Steps.{Leads, nothing, a_mark, an_one, mark_read, one_read, one_refused, no_mark, not_mark, reads_by, refused_by, none_of}
-use Rattle.ur_grammar.proofs.Choices.{chosen_mark_at, first_stops, stops_first, starts_at}
+use Rattle.ur_parse_rules.specs.Rules.{Read, Refused, no_span, syntax, Stops}
+use Rattle.ur_parse_rules.specs.Places.{IsAt, Other, OfKind, Unexpected, starts}
+use Rattle.ur_parse_rules.proofs.Steps.{Leads, nothing, a_mark, an_one, mark_read, one_read, one_refused, no_mark, not_mark, reads_by, refused_by, none_of}
+use Rattle.ur_parse_rules.proofs.Choices.{chosen_mark_at, first_stops, stops_first, starts_at}
 use Rattle.ur_parse_rules.specs.Classes.{member, in_class, symbol_class}
 use Rattle.ur_parse_rules.specs.ConParts.{con, row, row_tail, row_field, row_value, fields, fields_tail, record_field, field_name}
-use Rattle.ur_parse_rules.specs.declared.place.ConPlace.TheVariants as places
+use Rattle.ur_parse_rules.specs.declared.parse_rules_place.ConPlace.TheVariants as places
 use Rattle.ur_parse_rules.specs.Ends.{con_more}
 use Rattle.ur_parse_rules.specs.Parts.{of_con}
 use Rattle.ur_parse_rules.specs.Language.{language}

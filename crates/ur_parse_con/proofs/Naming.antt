@@ -9,8 +9,8 @@ use Rattle.ur_lex.specs.declared.token.TokenKind.{TokenKind}
 use Rattle.ur_lex.specs.declared.token.TokenKind.TheVariants as token
 use Rattle.ur_lex.specs.declared.token.Lexeme.{Lexeme}
 use Rattle.ur_lex.specs.Spelling.{Text}
-use Rattle.ur_grammar.specs.Rules.{Stops}
-use Rattle.ur_grammar.specs.Places.{starts}
+use Rattle.ur_parse_rules.specs.Rules.{Stops}
+use Rattle.ur_parse_rules.specs.Places.{starts}
 use Rattle.ur_parse_rules.specs.Classes.{member, in_class, symbol_class}
 use Rattle.ur_parse_rules.specs.Ends.{con_args, con_more}
 use Rattle.ur_parse_rules.specs.Words.{is_free}

@@ -12,13 +12,13 @@ use Rattle.ur_syntax.specs.declared.kind.Kind.{Kind}
 use Rattle.ur_syntax.specs.declared.con.Con.{Con}
 use Rattle.ur_syntax.specs.declared.con.ConParam.{ConParam}
 use Rattle.ur_syntax.specs.declared.con.ConParam.TheVariants as params
-use Rattle.ur_grammar.specs.Rules.{Stops, Read, Refused, no_span, syntax}
-use Rattle.ur_grammar.specs.Places.{IsAt, IsName, Other, OfKind, Passing, Unexpected, any, starts}
-use Rattle.ur_grammar.proofs.Steps.{nothing, a_mark, a_name, an_one, mark_read, name_read, one_read, one_refused, no_mark, not_mark, reads_by, refused_by, none_of}
-use Rattle.ur_grammar.proofs.Choices.{if_false, stops_first}
+use Rattle.ur_parse_rules.specs.Rules.{Stops, Read, Refused, no_span, syntax}
+use Rattle.ur_parse_rules.specs.Places.{IsAt, IsName, Other, OfKind, Passing, Unexpected, any, starts}
+use Rattle.ur_parse_rules.proofs.Steps.{nothing, a_mark, a_name, an_one, mark_read, name_read, one_read, one_refused, no_mark, not_mark, reads_by, refused_by, none_of}
+use Rattle.ur_parse_rules.proofs.Choices.{if_false, stops_first}
 use Rattle.ur_parse_rules.specs.Classes.{member, all_of}
 use Rattle.ur_parse_rules.specs.ConParts.{con, con_param, kind}
-use Rattle.ur_parse_rules.specs.declared.place.ConPlace.TheVariants as places
+use Rattle.ur_parse_rules.specs.declared.parse_rules_place.ConPlace.TheVariants as places
 use Rattle.ur_parse_rules.specs.Parts.{of_con}
 use Rattle.ur_parse_rules.specs.Language.{language}
 use Rattle.ur_parse_rules.proofs.Choice.{choice, param_choice, colons, a_name as name_first}

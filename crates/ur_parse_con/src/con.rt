@@ -1,6 +1,6 @@
 //! Constructors.
 ghost use Rattle.std.specs.Prelude.{◌≡◌, IfOk};
-ghost use Rattle.ur_grammar.specs.Places.{Moves, Reads, Refuses, IfRefused};
+ghost use Rattle.ur_parse_rules.specs.Places.{Moves, Reads, Refuses, IfRefused};
 ghost use Rattle.ur_parse_rules.specs.ConParts.{con, arrow, concat, app, atom, row, row_field, fields, record_field};
 ghost use Rattle.ur_parse_rules.specs.Parts.{of_con};
 ghost use Rattle.ur_parse_rules.specs.Language.{language};
@@ -13,9 +13,8 @@ use crate::nodes::{ending, lambda, record_of, record_of_fields, row_of};
 use crate::whole::{fitting, is_beside, keys_of, within};
 use std::alloc::Global;
 use ur_base::{List, Stop};
-use ur_grammar::{Parsed, below, expect, expect_name, pushed, sees, span, too_deep};
 use ur_lex::{Keyword, Symbol, TokenKind, Tokens};
-use ur_parse_rules::ConPlace;
+use ur_parse_rules::{ConPlace, Parsed, below, expect, expect_name, pushed, sees, span, too_deep};
 use ur_syntax::{CField, Con, RecordField};
 
 /// A constructor with at most `depth` nested, itself among them, and at most `levels` parentheses around a kind and `$`

@@ -3,7 +3,7 @@ ghost use Rattle.std.specs.Prelude.{◌≡◌, IfOk, drop, true, false, ◌+◌,
 ghost use Rattle.ur_base.specs.Stopping.{Says};
 ghost use Rattle.ur_lex.specs.declared.token.Symbol.TheVariants as symbol;
 ghost use Rattle.ur_lex.specs.declared.token.TokenKind.TheVariants as token;
-ghost use Rattle.ur_grammar.specs.Places.{IfRefused, IsAt, Other, OfKind, starts};
+ghost use Rattle.ur_parse_rules.specs.Places.{IfRefused, IsAt, Other, OfKind, starts};
 ghost use Rattle.ur_parse_rules.specs.Classes.{member};
 ghost use Rattle.ur_parse_rules.specs.Ends.{con_more};
 ghost use Rattle.ur_syntax.specs.declared.con.CField.TheVariants as cfield;
@@ -11,8 +11,8 @@ ghost use Rattle.ur_syntax.specs.declared.con.CField.TheVariants as cfield;
 use crate::names::sees_argument;
 use std::alloc::Global;
 use ur_base::Stop;
-use ur_grammar::{Parsed, sees, unexpected};
 use ur_lex::{Symbol, TokenKind, Tokens};
+use ur_parse_rules::{Parsed, sees, unexpected};
 use ur_syntax::{CField, Con, FieldName, RecordField};
 
 /// Whether a constructor goes on at a place.

@@ -1,12 +1,12 @@
 //! Constructors joined to one another.
 ghost use Rattle.std.specs.Prelude.{◌≡◌, IfOk};
-ghost use Rattle.ur_grammar.specs.Places.{IfRefused};
+ghost use Rattle.ur_parse_rules.specs.Places.{IfRefused};
 ghost use Rattle.ur_parse_rules.specs.Forms.{up_to};
 ghost use Rattle.ur_parse_con.specs.Joins.{joined_form, chained};
 
 use std::alloc::Global;
 use ur_base::{Boxed, List, Span, Stop};
-use ur_grammar::{Parsed, above, boxed};
+use ur_parse_rules::{Parsed, above, boxed};
 use ur_syntax::{Con, ConForm};
 
 /// What two constructors are joined by.

@@ -1,7 +1,7 @@
 //! Kinds.
 ghost use Rattle.std.specs.Prelude.{◌≡◌, ℕ, IfOk};
 ghost use Rattle.ur_syntax.specs.declared.kind.Kind.TheVariants as kinds;
-ghost use Rattle.ur_grammar.specs.Places.{Moves, Reads, Refuses, IfRefused};
+ghost use Rattle.ur_parse_rules.specs.Places.{Moves, Reads, Refuses, IfRefused};
 ghost use Rattle.ur_parse_rules.specs.ConParts.{kind, kind_atom};
 ghost use Rattle.ur_parse_rules.specs.Parts.{of_con};
 ghost use Rattle.ur_parse_rules.specs.Language.{language};
@@ -9,10 +9,10 @@ ghost use Rattle.ur_parse_con.specs.Chains.{arrows};
 
 use std::alloc::Global;
 use ur_base::{List, Stop};
-use ur_grammar::{
+use ur_lex::{Symbol, TokenKind, Tokens};
+use ur_parse_rules::{
     Parsed, above, below, boxed, expect, expect_word, pushed, sees, sees_word, unexpected,
 };
-use ur_lex::{Symbol, TokenKind, Tokens};
 use ur_syntax::Kind;
 
 /// Kinds with `->` between, which groups to the right, in at most `levels` parentheses.

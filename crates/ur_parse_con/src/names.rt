@@ -1,6 +1,6 @@
 //! Names, and what arguments begin with.
 ghost use Rattle.std.specs.Prelude.{◌≡◌, ℕ, IfOk, drop};
-ghost use Rattle.ur_grammar.specs.Places.{Moves, Reads, Refuses, IfRefused, starts};
+ghost use Rattle.ur_parse_rules.specs.Places.{Moves, Reads, Refuses, IfRefused, starts};
 ghost use Rattle.ur_parse_rules.specs.Classes.{member};
 ghost use Rattle.ur_parse_rules.specs.Ends.{con_args};
 ghost use Rattle.ur_parse_rules.specs.ConParts.{atom, field_name};
@@ -12,9 +12,8 @@ use crate::nodes::leaf;
 use crate::words::{expect_module, is_free};
 use std::alloc::Global;
 use ur_base::Stop;
-use ur_grammar::{Parsed, expect, expect_name, peek, sees, span};
 use ur_lex::{Symbol, TokenKind, Tokens};
-use ur_parse_rules::expect_field;
+use ur_parse_rules::{Parsed, expect, expect_field, expect_name, peek, sees, span};
 use ur_syntax::{Con, ConForm, FieldName};
 
 fn begins_symbol(symbol: Symbol) -> bool

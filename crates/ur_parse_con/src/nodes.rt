@@ -1,11 +1,11 @@
 //! The forms of constructors, made of their parts.
 ghost use Rattle.std.specs.Prelude.{◌≡◌, IfOk};
-ghost use Rattle.ur_grammar.specs.Places.{IfRefused};
+ghost use Rattle.ur_parse_rules.specs.Places.{IfRefused};
 ghost use Rattle.ur_syntax.specs.declared.con.ConForm.TheVariants as form;
 
 use std::alloc::Global;
 use ur_base::{List, Span, Stop, Text};
-use ur_grammar::{Parsed, above, boxed};
+use ur_parse_rules::{Parsed, above, boxed};
 use ur_syntax::{CField, Con, ConForm, Kind, RecordField};
 
 /// A constructor without parts that are constructors.

@@ -3,7 +3,7 @@ ghost use Rattle.std.specs.Prelude.{◌≡◌, ◌+◌, ◌⊎◌, IfOk, IsTrue,
 ghost use Rattle.ur_lex.specs.declared.token.Symbol.TheVariants as symbol;
 ghost use Rattle.ur_lex.specs.declared.token.TokenKind.TheVariants as token;
 ghost use Rattle.ur_syntax.specs.declared.con.ConParam.TheVariants as params;
-ghost use Rattle.ur_grammar.specs.Places.{Moves, Reads, Refuses, IfRefused, IsAt, Other, OfKind};
+ghost use Rattle.ur_parse_rules.specs.Places.{Moves, Reads, Refuses, IfRefused, IsAt, Other, OfKind};
 ghost use Rattle.ur_parse_rules.specs.ConParts.{con_param};
 ghost use Rattle.ur_parse_rules.specs.Parts.{of_con};
 ghost use Rattle.ur_parse_rules.specs.Language.{language};
@@ -12,9 +12,8 @@ use crate::con::con;
 use crate::kind::{kind, taller};
 use std::alloc::Global;
 use ur_base::{Stop, Text};
-use ur_grammar::{Parsed, expect, expect_name, sees};
 use ur_lex::{Symbol, TokenKind, Tokens};
-use ur_parse_rules::ConPlace;
+use ur_parse_rules::{ConPlace, Parsed, expect, expect_name, sees};
 use ur_syntax::{Con, ConParam, Kind};
 
 /// Whether `x ::` stands at a place.

@@ -2,14 +2,13 @@
 ghost use Rattle.std.specs.Prelude.{◌≡◌, OnOk, ◌||◌, true, false, []};
 ghost use Rattle.std.specs.List.{list_all};
 ghost use Rattle.ur_base.specs.Stopping.{Says};
-ghost use Rattle.ur_grammar.specs.Places.{IfRefused};
+ghost use Rattle.ur_parse_rules.specs.Places.{IfRefused};
 ghost use Rattle.ur_parse_rules.specs.Constructors.{is_whole, is_beside, keys_of, within, has_con};
 
 use std::alloc::Global;
 use ur_base::Stop;
-use ur_grammar::unexpected;
 use ur_lex::Tokens;
-use ur_parse_rules::ConPlace;
+use ur_parse_rules::{ConPlace, unexpected};
 use ur_syntax::{CField, Con, ConForm};
 
 /// Whether the keys of a table may stand behind a constructor.

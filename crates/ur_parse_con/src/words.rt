@@ -1,13 +1,13 @@
 //! Words that are no modules at some places.
 ghost use Rattle.std.specs.Prelude.{◌≡◌, IsTrue, IfOk, ◌+◌, false};
 ghost use Rattle.ur_lex.specs.declared.token.TokenKind.TheVariants as token;
-ghost use Rattle.ur_grammar.specs.Places.{IsName, IsAt, Unexpected, Passing, IfRefused, Other};
+ghost use Rattle.ur_parse_rules.specs.Places.{IsName, IsAt, Unexpected, Passing, IfRefused, Other};
 ghost use Rattle.ur_parse_rules.specs.Words as words;
 
 use std::alloc::Global;
 use ur_base::{Stop, Text};
-use ur_grammar::{bytes_equal, sees, text, unexpected};
 use ur_lex::{TokenKind, Tokens};
+use ur_parse_rules::{bytes_equal, sees, text, unexpected};
 
 /// Whether a word may name a module: the words that a table's keys begin with may not, where keys may stand.
 pub fn is_free(keys: bool, word: &[u8]) -> bool

@@ -2,11 +2,11 @@
 use Rattle.std.specs.Prelude.{◌≡◌, ℕ, List, [], drop}
 use Rattle.std.proofs.Common.{sym, subst}
 use Rattle.ur_lex.specs.declared.token.Lexeme.{Lexeme}
-use Rattle.ur_grammar.specs.Places.{Moves}
+use Rattle.ur_parse_rules.specs.Places.{Moves}
 use Rattle.ur_parse_rules.specs.Quoted.{Quoted, Raw}
 use Rattle.ur_parse_rules.specs.Language.{max_nesting}
-use Rattle.ur_parse_code.specs.declared.quotes.Quotes.{Quotes}
-use Rattle.ur_parse_code.specs.Quotes.{Numbered, Makes}
+use Rattle.ur_parse_embed_code.specs.declared.quotes.Quotes.{Quotes}
+use Rattle.ur_parse_embed_code.specs.Quotes.{Numbered, Makes}
 use Rattle.ur_parse_embed.specs.declared.embedded.Skeleton.{Skeleton}
 use Rattle.ur_parse_embed.specs.Skeletons.{IsSkeleton, Embeds}
 

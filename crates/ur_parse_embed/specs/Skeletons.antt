@@ -2,11 +2,11 @@
 use Rattle.std.specs.Prelude.{◌≡◌, ℕ, Bool, true, ◌&&◌, nat_lt, List, map, drop}
 use Rattle.std.specs.List.{list_all}
 use Rattle.ur_lex.specs.declared.token.Lexeme.{Lexeme}
-use Rattle.ur_grammar.specs.Places.{Moves}
+use Rattle.ur_parse_rules.specs.Places.{Moves}
 use Rattle.ur_parse_rules.specs.Quoted.{Quoted, Raw}
 use Rattle.ur_parse_rules.specs.Language.{max_nesting}
-use Rattle.ur_parse_code.specs.declared.quotes.Range.{Range}
-use Rattle.ur_parse_code.specs.Quotes.{all_held, within}
+use Rattle.ur_parse_embed_code.specs.declared.quotes.Range.{Range}
+use Rattle.ur_parse_embed_code.specs.Quotes.{all_held, within}
 use Rattle.ur_parse_embed.specs.declared.embedded.Skeleton.{Skeleton}
 
 -- the code beside the tree, and the tree, in which the first antiquote and the first attribute have number 0

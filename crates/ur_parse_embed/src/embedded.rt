@@ -1,8 +1,8 @@
 //! The calls.
 ghost use Rattle.std.specs.Prelude.{◌≡◌, ℕ, IfOk};
 ghost use Rattle.std.specs.List.{list_all};
-ghost use Rattle.ur_grammar.specs.Rules.{Read};
-ghost use Rattle.ur_grammar.specs.Places.{Refuses, IfRefused};
+ghost use Rattle.ur_parse_rules.specs.Rules.{Read};
+ghost use Rattle.ur_parse_rules.specs.Places.{Refuses, IfRefused};
 ghost use Rattle.ur_parse_rules.specs.Quoted.{raw};
 ghost use Rattle.ur_parse_rules.specs.SqlParts.{query, change};
 ghost use Rattle.ur_parse_rules.specs.XmlParts.{literal};
@@ -10,14 +10,12 @@ ghost use Rattle.ur_parse_rules.specs.Parts.{of_sql, of_xml};
 ghost use Rattle.ur_parse_rules.specs.Language.{language, max_nesting};
 ghost use Rattle.ur_parse_embed.specs.Skeletons.{Embeds, IsWithin, lies_between};
 
+use crate::{read_change, read_query};
 use std::alloc::Global;
 use ur_base::Stop;
 use ur_lex::Tokens;
-use ur_parse_change::read_change;
-use ur_parse_code::{Quotes, Range};
 use ur_parse_con::MAX_NESTING;
-use ur_parse_select::read_query;
-use ur_parse_xml::read_literal;
+use ur_parse_embed_code::{Quotes, Range, read_literal};
 use ur_syntax::{SqlChange, SqlQuery, Xml};
 
 /// The greatest number of signs before an expression, `NOT` and `-`: the stack is memory, and more is want of memory.

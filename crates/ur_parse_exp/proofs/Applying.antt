@@ -6,11 +6,11 @@ use Rattle.ur_base.specs.declared.refusal.Span.{Span}
 use Rattle.ur_base.specs.declared.refusal.Refusal.{Refusal}
 use Rattle.ur_lex.specs.declared.token.Lexeme.{Lexeme}
 use Rattle.ur_syntax.specs.declared.exp.Exp.{Exp}
-use Rattle.ur_grammar.specs.Rules.{Read, Refused, Stops, no_span}
-use Rattle.ur_grammar.specs.Places.{Moves, span_of, starts}
-use Rattle.ur_grammar.proofs.Tokens.{covers}
-use Rattle.ur_grammar.proofs.Steps.{Leads, nothing, an_one, one_read, one_refused, reads_by, refused_by, leads_here}
-use Rattle.ur_grammar.proofs.Choices.{if_true, first_stops}
+use Rattle.ur_parse_rules.specs.Rules.{Read, Refused, Stops, no_span}
+use Rattle.ur_parse_rules.specs.Places.{Moves, span_of, starts}
+use Rattle.ur_parse_rules.proofs.Tokens.{covers}
+use Rattle.ur_parse_rules.proofs.Steps.{Leads, nothing, an_one, one_read, one_refused, reads_by, refused_by, leads_here}
+use Rattle.ur_parse_rules.proofs.Choices.{if_true, first_stops}
 use Rattle.ur_parse_rules.specs.Forms.{up_to}
 use Rattle.ur_parse_rules.specs.Classes.{member}
 use Rattle.ur_parse_rules.specs.Ends.{exp_args, dot_class}

@@ -8,10 +8,10 @@ use Rattle.ur_lex.specs.declared.token.TokenKind.TheVariants as token
 use Rattle.ur_lex.specs.declared.token.Lexeme.{Lexeme}
 use Rattle.ur_syntax.specs.declared.exp.Branch.{Branch}
 use Rattle.ur_syntax.specs.declared.exp.Pat.{Pat}
-use Rattle.ur_grammar.specs.Rules.{Read, Refused, Stops, no_span}
-use Rattle.ur_grammar.specs.Places.{IsAt, Other, OfKind, Unexpected}
-use Rattle.ur_grammar.proofs.Steps.{Leads, nothing, a_mark, an_one, mark_read, one_read, one_refused, no_mark, reads_by, refused_by, leads_here}
-use Rattle.ur_grammar.proofs.Choices.{chosen_mark_at, if_false, starts_at}
+use Rattle.ur_parse_rules.specs.Rules.{Read, Refused, Stops, no_span}
+use Rattle.ur_parse_rules.specs.Places.{IsAt, Other, OfKind, Unexpected}
+use Rattle.ur_parse_rules.proofs.Steps.{Leads, nothing, a_mark, an_one, mark_read, one_read, one_refused, no_mark, reads_by, refused_by, leads_here}
+use Rattle.ur_parse_rules.proofs.Choices.{chosen_mark_at, if_false, starts_at}
 use Rattle.ur_parse_rules.specs.Classes.{member, symbol_class}
 use Rattle.ur_parse_rules.specs.Ends.{symbols, operators, semicolon, exp_more, branches_more}
 use Rattle.ur_parse_rules.specs.Ends as ends
@@ -21,7 +21,7 @@ use Rattle.ur_parse_rules.specs.Language.{language}
 use Rattle.ur_parse_rules.proofs.Choice.{choice}
 use Rattle.ur_parse_rules.proofs.AllDecided.{decided}
 use Rattle.ur_parse_rules.proofs.Places.{missing}
-use Rattle.ur_parse_pat.proofs.Binders.{cannot_end}
+use Rattle.ur_parse_con.proofs.Binders.{cannot_end}
 use Rattle.ur_parse_exp_parts.specs.Lists.{branch}
 use Rattle.ur_parse_exp.specs.Branches.{BranchRead}
 

@@ -9,10 +9,10 @@ use Rattle.ur_base.specs.declared.refusal.Stop.TheVariants as stop
 use Rattle.ur_base.specs.Stopping.{Says}
 use Rattle.ur_lex.specs.declared.token.Lexeme.{Lexeme}
 use Rattle.ur_syntax.specs.declared.exp.Exp.{Exp}
-use Rattle.ur_grammar.specs.Rules.{AnyOf, Read, Refused, Missing, TooDeep, Spells, part, one, no_span, syntax, nested}
-use Rattle.ur_grammar.specs.Places.{Moves, OfRefusal}
-use Rattle.ur_grammar.proofs.Once.{read_once}
-use Rattle.ur_grammar.proofs.Steps.{nothing, an_one, one_read, one_refused, reads_by, refused_by}
+use Rattle.ur_parse_rules.specs.Rules.{AnyOf, Read, Refused, Missing, TooDeep, Spells, part, one, no_span, syntax, nested}
+use Rattle.ur_parse_rules.specs.Places.{Moves, OfRefusal}
+use Rattle.ur_parse_rules.proofs.Once.{read_once}
+use Rattle.ur_parse_rules.proofs.Steps.{nothing, an_one, one_read, one_refused, reads_by, refused_by}
 use Rattle.ur_parse_rules.specs.Quoted.{expressions, raw, Raw}
 use Rattle.ur_parse_rules.specs.ExpParts.{exp}
 use Rattle.ur_parse_rules.specs.Parts.{of_exp, of_quote, Ended}
@@ -21,11 +21,11 @@ use Rattle.ur_parse_rules.proofs.Choice.{choice}
 use Rattle.ur_parse_rules.proofs.AllDecided.{decided}
 use Rattle.ur_parse_rules.proofs.RawCode.{raw_is}
 use Rattle.ur_parse_rules.proofs.Places.{may_not_end}
-use Rattle.ur_parse_code.specs.declared.quotes.Range.{Range}
-use Rattle.ur_parse_code.specs.Quotes.{raw_of}
-use Rattle.ur_skeletons.specs.Filled.{OpensBeyond}
-use Rattle.ur_skeletons.proofs.Fronts.{stays_within}
-use Rattle.ur_skeletons.proofs.Walks.{is_raw}
+use Rattle.ur_parse_embed_code.specs.declared.quotes.Range.{Range}
+use Rattle.ur_parse_embed_code.specs.Quotes.{raw_of}
+use Rattle.ur_parse_embed_code.specs.Filled.{OpensBeyond}
+use Rattle.ur_parse_embed_code.proofs.Fronts.{stays_within}
+use Rattle.ur_parse_embed_code.proofs.Walks.{is_raw}
 use Rattle.ur_parse_exp.specs.declared.code.Codes.{Codes}
 use Rattle.ur_parse_exp.specs.Codes.{IsRaw, Sits, code_of, nest, IsExp, IsNone, IsDeep, IsKnown, fits, deep, AllExps, CodesRead, CodeRead, holds, nests, NoneRead, Told}
 

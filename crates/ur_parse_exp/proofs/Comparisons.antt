@@ -15,11 +15,11 @@ use Rattle.ur_syntax.specs.declared.exp.Exp.{Exp}
 use Rattle.ur_syntax.specs.declared.exp.ExpForm.TheVariants as form
 use Rattle.ur_syntax.specs.declared.exp.Binary.{Binary}
 use Rattle.ur_syntax.specs.declared.exp.Binary.TheVariants as op
-use Rattle.ur_grammar.specs.Rules.{Read, Refused, Stops, no_span}
-use Rattle.ur_grammar.specs.Places.{Moves, IsAt, OfKind, span_of, starts}
-use Rattle.ur_grammar.proofs.Tokens.{covers}
-use Rattle.ur_grammar.proofs.Steps.{nothing, a_mark, an_one, mark_read, one_read, one_refused, reads_by, refused_by}
-use Rattle.ur_grammar.proofs.Choices.{chosen_mark_at, starts_at}
+use Rattle.ur_parse_rules.specs.Rules.{Read, Refused, Stops, no_span}
+use Rattle.ur_parse_rules.specs.Places.{Moves, IsAt, OfKind, span_of, starts}
+use Rattle.ur_parse_rules.proofs.Tokens.{covers}
+use Rattle.ur_parse_rules.proofs.Steps.{nothing, a_mark, an_one, mark_read, one_read, one_refused, reads_by, refused_by}
+use Rattle.ur_parse_rules.proofs.Choices.{chosen_mark_at, starts_at}
 use Rattle.ur_parse_rules.specs.Classes.{Classes, member}
 use Rattle.ur_parse_rules.specs.Ends.{symbols, cons_more, comparison_more}
 use Rattle.ur_parse_rules.specs.Expressions.{at}
@@ -29,9 +29,9 @@ use Rattle.ur_parse_rules.specs.Language.{language}
 use Rattle.ur_parse_rules.proofs.Choice.{choice}
 use Rattle.ur_parse_rules.proofs.AllDecided.{decided}
 use Rattle.ur_parse_rules.proofs.Tests.{false_true, is_not}
-use Rattle.ur_parse_pat.proofs.Binders.{cannot_end}
+use Rattle.ur_parse_con.proofs.Binders.{cannot_end}
 use Rattle.ur_parse_exp_parts.proofs.Ending.{stops_both}
-use Rattle.ur_parse_parts.specs.Operators.{compared, comparison_of, ComparisonAt}
+use Rattle.ur_parse_con.specs.Operators.{compared, comparison_of, ComparisonAt}
 
 -- ---- which tokens compare
 

@@ -8,11 +8,11 @@ use Rattle.ur_lex.specs.declared.token.Lexeme.{Lexeme}
 use Rattle.ur_syntax.specs.declared.exp.Exp.{Exp}
 use Rattle.ur_syntax.specs.declared.exp.ExpForm.TheVariants as form
 use Rattle.ur_syntax.specs.declared.exp.Binary.TheVariants as op
-use Rattle.ur_grammar.specs.Rules.{Read, Refused, Stops, no_span}
-use Rattle.ur_grammar.specs.Places.{Moves, IsAt, Other, OfKind, span_of}
-use Rattle.ur_grammar.proofs.Tokens.{covers}
-use Rattle.ur_grammar.proofs.Steps.{nothing, a_mark, an_one, mark_read, one_read, one_refused, reads_by, refused_by}
-use Rattle.ur_grammar.proofs.Choices.{chosen_mark_at, if_false}
+use Rattle.ur_parse_rules.specs.Rules.{Read, Refused, Stops, no_span}
+use Rattle.ur_parse_rules.specs.Places.{Moves, IsAt, Other, OfKind, span_of}
+use Rattle.ur_parse_rules.proofs.Tokens.{covers}
+use Rattle.ur_parse_rules.proofs.Steps.{nothing, a_mark, an_one, mark_read, one_read, one_refused, reads_by, refused_by}
+use Rattle.ur_parse_rules.proofs.Choices.{chosen_mark_at, if_false}
 use Rattle.ur_parse_rules.specs.Classes.{member, symbol_class}
 use Rattle.ur_parse_rules.specs.Ends.{append_more}
 use Rattle.ur_parse_rules.specs.Forms.{up_to}

@@ -6,11 +6,11 @@ use Rattle.ur_lex.specs.declared.token.Lexeme.{Lexeme}
 use Rattle.ur_syntax.specs.declared.sql.DeclName.{DeclName}
 use Rattle.ur_syntax.specs.declared.exp.Exp.{Exp}
 use Rattle.ur_syntax.specs.declared.exp.ExpForm.TheVariants as form
-use Rattle.ur_grammar.specs.Rules.{Read, Refused}
-use Rattle.ur_grammar.specs.Places.{Moves, span_of}
-use Rattle.ur_grammar.proofs.Tokens.{covers}
-use Rattle.ur_grammar.proofs.Steps.{nothing, a_word, an_one, word_read, one_read, one_refused, reads_by, refused_by}
-use Rattle.ur_grammar.proofs.Choices.{chosen_word_at}
+use Rattle.ur_parse_rules.specs.Rules.{Read, Refused}
+use Rattle.ur_parse_rules.specs.Places.{Moves, span_of}
+use Rattle.ur_parse_rules.proofs.Tokens.{covers}
+use Rattle.ur_parse_rules.proofs.Steps.{nothing, a_word, an_one, word_read, one_read, one_refused, reads_by, refused_by}
+use Rattle.ur_parse_rules.proofs.Choices.{chosen_word_at}
 use Rattle.ur_parse_rules.specs.Quoted.{expressions}
 use Rattle.ur_parse_rules.specs.Expressions.{at}
 use Rattle.ur_parse_rules.specs.ExpParts as e

@@ -12,11 +12,11 @@ use Rattle.ur_syntax.specs.declared.exp.QueryWord.{QueryWord}
 use Rattle.ur_syntax.specs.declared.exp.QueryWord.TheVariants as queries
 use Rattle.ur_syntax.specs.declared.sql.SqlQuery.{SqlQuery}
 use Rattle.ur_syntax.specs.declared.sql.SqlChange.{SqlChange}
-use Rattle.ur_grammar.specs.Rules.{Read, Refused}
-use Rattle.ur_grammar.specs.Places.{Moves, IsAt, Other, OfKind, Unexpected, span_of}
-use Rattle.ur_grammar.proofs.Tokens.{covers}
-use Rattle.ur_grammar.proofs.Steps.{nothing, a_mark, a_word, an_one, mark_read, word_read, one_read, one_refused, no_mark, reads_by, refused_by}
-use Rattle.ur_grammar.proofs.Choices.{chosen_word_at, starts_at}
+use Rattle.ur_parse_rules.specs.Rules.{Read, Refused}
+use Rattle.ur_parse_rules.specs.Places.{Moves, IsAt, Other, OfKind, Unexpected, span_of}
+use Rattle.ur_parse_rules.proofs.Tokens.{covers}
+use Rattle.ur_parse_rules.proofs.Steps.{nothing, a_mark, a_word, an_one, mark_read, word_read, one_read, one_refused, no_mark, reads_by, refused_by}
+use Rattle.ur_parse_rules.proofs.Choices.{chosen_word_at, starts_at}
 use Rattle.ur_parse_rules.specs.Classes.{member}
 use Rattle.ur_parse_rules.specs.Ends.{dot_class}
 use Rattle.ur_parse_rules.specs.Expressions.{at}
@@ -28,10 +28,10 @@ use Rattle.ur_parse_rules.specs.Language.{language}
 use Rattle.ur_parse_rules.proofs.Choice.{choice}
 use Rattle.ur_parse_rules.proofs.AllDecided.{decided}
 use Rattle.ur_parse_rules.proofs.Places.{missing}
-use Rattle.ur_parse_pat.proofs.Binders.{cannot_end}
+use Rattle.ur_parse_con.proofs.Binders.{cannot_end}
 use Rattle.ur_parse_exp_parts.specs.declared.word.FormWord.TheVariants as words
 use Rattle.ur_parse_exp_parts.specs.Words.{Stands}
-use Rattle.ur_parse_exp_forms.specs.Shapes.{query_word}
+use Rattle.ur_parse_exp_parts.specs.Shapes.{query_word}
 
 -- ---- `dml (change)`
 

@@ -9,15 +9,15 @@ use Rattle.ur_lex.specs.declared.token.Lexeme.{Lexeme}
 use Rattle.ur_syntax.specs.declared.con.Con.{Con}
 use Rattle.ur_syntax.specs.declared.exp.Exp.{Exp}
 use Rattle.ur_syntax.specs.declared.exp.ExpForm.TheVariants as form
-use Rattle.ur_grammar.specs.Rules.{Read, Refused, no_span, syntax}
-use Rattle.ur_grammar.specs.Places.{Moves, IsAt, Other, OfKind, Unexpected, span_of, starts}
-use Rattle.ur_grammar.proofs.Tokens.{covers}
-use Rattle.ur_grammar.proofs.Steps.{nothing, a_mark, a_word, an_one, mark_read, word_read, one_read, one_refused, no_mark, not_word, reads_by, refused_by, none_of}
-use Rattle.ur_grammar.proofs.Choices.{chosen_word_at, if_true, not_one, starts_at}
+use Rattle.ur_parse_rules.specs.Rules.{Read, Refused, no_span, syntax}
+use Rattle.ur_parse_rules.specs.Places.{Moves, IsAt, Other, OfKind, Unexpected, span_of, starts}
+use Rattle.ur_parse_rules.proofs.Tokens.{covers}
+use Rattle.ur_parse_rules.proofs.Steps.{nothing, a_mark, a_word, an_one, mark_read, word_read, one_read, one_refused, no_mark, not_word, reads_by, refused_by, none_of}
+use Rattle.ur_parse_rules.proofs.Choices.{chosen_word_at, if_true, not_one, starts_at}
 use Rattle.ur_parse_rules.specs.Classes.{member}
 use Rattle.ur_parse_rules.specs.Ends.{dot_class}
 use Rattle.ur_parse_rules.specs.Expressions.{at}
-use Rattle.ur_parse_rules.specs.declared.place.ConPlace.TheVariants as places
+use Rattle.ur_parse_rules.specs.declared.parse_rules_place.ConPlace.TheVariants as places
 use Rattle.ur_parse_rules.specs.ConParts as c
 use Rattle.ur_parse_rules.specs.ExpParts as e
 use Rattle.ur_parse_rules.specs.Parts.{of_con, of_exp}
@@ -26,7 +26,7 @@ use Rattle.ur_parse_rules.proofs.Choice.{choice}
 use Rattle.ur_parse_rules.proofs.AllDecided.{decided}
 use Rattle.ur_parse_rules.proofs.Tests.{false_true}
 use Rattle.ur_parse_rules.proofs.Places.{missing}
-use Rattle.ur_parse_pat.proofs.Binders.{cannot_end}
+use Rattle.ur_parse_con.proofs.Binders.{cannot_end}
 use Rattle.ur_parse_exp_parts.specs.declared.form.Single.{Single}
 use Rattle.ur_parse_exp_parts.specs.declared.form.Single.TheVariants as ones
 use Rattle.ur_parse_exp_parts.specs.declared.word.FormWord.TheVariants as words

@@ -9,11 +9,11 @@ use Rattle.ur_syntax.specs.declared.exp.Exp.{Exp}
 use Rattle.ur_syntax.specs.declared.exp.ExpForm.TheVariants as form
 use Rattle.ur_syntax.specs.declared.exp.LambdaParam.{LambdaParam}
 use Rattle.ur_syntax.specs.declared.exp.Branch.{Branch}
-use Rattle.ur_grammar.specs.Rules.{Read, Refused, Stops, no_span}
-use Rattle.ur_grammar.specs.Places.{Moves, IsAt, Other, OfKind, Unexpected, span_of}
-use Rattle.ur_grammar.proofs.Tokens.{covers}
-use Rattle.ur_grammar.proofs.Steps.{nothing, a_mark, an_one, mark_read, one_read, one_refused, no_mark, reads_by, refused_by}
-use Rattle.ur_grammar.proofs.Choices.{chosen_mark_at, if_false, less}
+use Rattle.ur_parse_rules.specs.Rules.{Read, Refused, Stops, no_span}
+use Rattle.ur_parse_rules.specs.Places.{Moves, IsAt, Other, OfKind, Unexpected, span_of}
+use Rattle.ur_parse_rules.proofs.Tokens.{covers}
+use Rattle.ur_parse_rules.proofs.Steps.{nothing, a_mark, an_one, mark_read, one_read, one_refused, no_mark, reads_by, refused_by}
+use Rattle.ur_parse_rules.proofs.Choices.{chosen_mark_at, if_false, less}
 use Rattle.ur_parse_rules.specs.Classes.{member, keyword_class}
 use Rattle.ur_parse_rules.specs.Ends.{operators, semicolon, line_more, exp_more, branches_more}
 use Rattle.ur_parse_rules.specs.Ends as ends

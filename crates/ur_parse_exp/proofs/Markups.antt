@@ -11,12 +11,12 @@ use Rattle.ur_lex.specs.declared.token.Lexeme.{Lexeme}
 use Rattle.ur_syntax.specs.declared.exp.Exp.{Exp}
 use Rattle.ur_syntax.specs.declared.exp.ExpForm.TheVariants as form
 use Rattle.ur_syntax.specs.declared.xml.Xml.{Xml}
-use Rattle.ur_grammar.specs.Rules.{AnyOf, Read, Refused, NoneReads, one}
-use Rattle.ur_grammar.specs.Places.{Moves, IsAt, OfKind, OfRefusal, span_of}
-use Rattle.ur_grammar.proofs.Once.{read_once}
-use Rattle.ur_grammar.proofs.Tokens.{covers}
-use Rattle.ur_grammar.proofs.Steps.{nothing, an_one, one_refused, reads_by, refused_by}
-use Rattle.ur_grammar.proofs.Choices.{chosen_mark_at}
+use Rattle.ur_parse_rules.specs.Rules.{AnyOf, Read, Refused, NoneReads, one}
+use Rattle.ur_parse_rules.specs.Places.{Moves, IsAt, OfKind, OfRefusal, span_of}
+use Rattle.ur_parse_rules.proofs.Once.{read_once}
+use Rattle.ur_parse_rules.proofs.Tokens.{covers}
+use Rattle.ur_parse_rules.proofs.Steps.{nothing, an_one, one_refused, reads_by, refused_by}
+use Rattle.ur_parse_rules.proofs.Choices.{chosen_mark_at}
 use Rattle.ur_parse_rules.specs.Quoted.{expressions, raw, Raw, Quoted}
 use Rattle.ur_parse_rules.specs.Expressions.{at}
 use Rattle.ur_parse_rules.specs.ExpParts.{base}
@@ -26,12 +26,12 @@ use Rattle.ur_parse_rules.specs.Language.{language}
 use Rattle.ur_parse_rules.proofs.Choice.{choice}
 use Rattle.ur_parse_rules.proofs.AllDecided.{decided}
 use Rattle.ur_parse_rules.proofs.Places.{ends_empty}
-use Rattle.ur_parse_code.specs.declared.quotes.Quotes.{Quotes}
-use Rattle.ur_parse_code.specs.Quotes.{Numbered}
-use Rattle.ur_skeletons.specs.Filled.{Fills, AllKnown, OpensBehind}
-use Rattle.ur_skeletons.specs.Laws.{literal}
-use Rattle.ur_skeletons.proofs.Laws.{is_filled, is_filled_or_open, literal_read, literal_complete}
-use Rattle.ur_skeletons.proofs.Trimmed.{one_beyond}
+use Rattle.ur_parse_embed_code.specs.declared.quotes.Quotes.{Quotes}
+use Rattle.ur_parse_embed_code.specs.Quotes.{Numbered}
+use Rattle.ur_parse_embed_code.specs.Filled.{Fills, AllKnown, OpensBehind}
+use Rattle.ur_parse_embed_code.specs.Laws.{literal}
+use Rattle.ur_parse_embed_code.proofs.Laws.{is_filled, is_filled_or_open, literal_read, literal_complete}
+use Rattle.ur_parse_embed_code.proofs.Trimmed.{one_beyond}
 use Rattle.ur_parse_exp.specs.declared.code.Codes.{Codes}
 use Rattle.ur_parse_exp.specs.Codes.{IsNone, IsKnown, CodesRead, Told}
 use Rattle.ur_parse_exp.specs.Markups.{IsMarkup}

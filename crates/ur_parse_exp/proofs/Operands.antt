@@ -7,18 +7,18 @@ use Rattle.ur_lex.specs.declared.token.Symbol.TheVariants as symbol
 use Rattle.ur_lex.specs.declared.token.TokenKind.TheVariants as token
 use Rattle.ur_lex.specs.declared.token.Lexeme.{Lexeme}
 use Rattle.ur_syntax.specs.declared.exp.Exp.{Exp}
-use Rattle.ur_grammar.specs.Rules.{Read, Refused, no_span}
-use Rattle.ur_grammar.specs.Places.{IsAt, OfKind}
-use Rattle.ur_grammar.proofs.Steps.{nothing, an_one, one_refused, reads_by, refused_by}
+use Rattle.ur_parse_rules.specs.Rules.{Read, Refused, no_span}
+use Rattle.ur_parse_rules.specs.Places.{IsAt, OfKind}
+use Rattle.ur_parse_rules.proofs.Steps.{nothing, an_one, one_refused, reads_by, refused_by}
 use Rattle.ur_parse_rules.specs.ExpParts as e
 use Rattle.ur_parse_rules.specs.Parts.{of_exp}
 use Rattle.ur_parse_rules.specs.Language.{language}
 use Rattle.ur_parse_rules.proofs.Choice.{choice}
 use Rattle.ur_parse_rules.proofs.AllDecided.{decided}
-use Rattle.ur_parse_parts.specs.declared.operator.Level.{Level}
-use Rattle.ur_parse_parts.specs.declared.operator.Level.TheVariants as level
-use Rattle.ur_parse_parts.specs.declared.operator.Sign.TheVariants as signs
-use Rattle.ur_parse_parts.specs.Operators.{level_of, sign, SignAt}
+use Rattle.ur_parse_con.specs.declared.operator.Level.{Level}
+use Rattle.ur_parse_con.specs.declared.operator.Level.TheVariants as level
+use Rattle.ur_parse_con.specs.declared.operator.Sign.TheVariants as signs
+use Rattle.ur_parse_con.specs.Operators.{level_of, sign, SignAt}
 use Rattle.ur_parse_exp_parts.specs.Lists.{StepRead, GoneRead}
 
 only_one : (b : Bool) → let z : ℕ = if b then 0 else 0 in z ≡ 0

@@ -10,16 +10,16 @@ use Rattle.ur_lex.specs.Spelling.{Text}
 use Rattle.ur_syntax.specs.declared.con.Con.{Con}
 use Rattle.ur_syntax.specs.declared.exp.Exp.{Exp}
 use Rattle.ur_syntax.specs.declared.exp.ExpForm.TheVariants as form
-use Rattle.ur_grammar.specs.Rules.{Read, Refused, Stops, no_span}
-use Rattle.ur_grammar.specs.Places.{Moves, IsAt, IsName, Other, OfKind, Passing, Unexpected, any, span_of, starts}
-use Rattle.ur_grammar.proofs.Tokens.{covers}
-use Rattle.ur_grammar.proofs.Steps.{nothing, a_mark, a_name, an_one, mark_read, name_read, one_read, one_refused, no_mark, no_name, reads_by, refused_by}
-use Rattle.ur_grammar.proofs.Choices.{chosen_mark_at, chosen_name_at, if_true, if_false, starts_at}
+use Rattle.ur_parse_rules.specs.Rules.{Read, Refused, Stops, no_span}
+use Rattle.ur_parse_rules.specs.Places.{Moves, IsAt, IsName, Other, OfKind, Passing, Unexpected, any, span_of, starts}
+use Rattle.ur_parse_rules.proofs.Tokens.{covers}
+use Rattle.ur_parse_rules.proofs.Steps.{nothing, a_mark, a_name, an_one, mark_read, name_read, one_read, one_refused, no_mark, no_name, reads_by, refused_by}
+use Rattle.ur_parse_rules.proofs.Choices.{chosen_mark_at, chosen_name_at, if_true, if_false, starts_at}
 use Rattle.ur_parse_rules.specs.Classes.{member, symbol_class}
 use Rattle.ur_parse_rules.specs.Words.{is_name}
 use Rattle.ur_parse_rules.specs.Ends.{exp_args, dot_class}
 use Rattle.ur_parse_rules.specs.Expressions.{at, projected}
-use Rattle.ur_parse_rules.specs.declared.place.ConPlace.TheVariants as places
+use Rattle.ur_parse_rules.specs.declared.parse_rules_place.ConPlace.TheVariants as places
 use Rattle.ur_parse_rules.specs.ConParts as c
 use Rattle.ur_parse_rules.specs.ExpParts as e
 use Rattle.ur_parse_rules.specs.Parts.{of_con, of_exp, empty, con, Given, value, type}
@@ -31,7 +31,7 @@ use Rattle.ur_parse_rules.proofs.Places.{ends_empty, missing, span_join, mark_mo
 use Rattle.ur_lex.specs.declared.token.Symbol.{Symbol}
 use Rattle.ur_lex.specs.declared.token.TokenKind.{TokenKind}
 use Rattle.ur_parse_exp_parts.specs.Begins.{opens, opens_post, begins_base, begins_post, begins_argument}
-use Rattle.ur_parse_pat.proofs.Binders.{cannot_end}
+use Rattle.ur_parse_con.proofs.Binders.{cannot_end}
 use Rattle.ur_parse_exp_parts.specs.Behind.{DotsRead, CapitalRead, NilRead}
 use Rattle.ur_parse_exp_parts.specs.Arguments.{given_at}
 use Rattle.ur_parse_exp_parts.proofs.Beginning.{base_is, begins_is, base_begins, post_begins}

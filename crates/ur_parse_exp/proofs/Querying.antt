@@ -5,18 +5,18 @@ use Rattle.ur_lex.specs.declared.token.Lexeme.{Lexeme}
 use Rattle.ur_syntax.specs.declared.exp.Exp.{Exp}
 use Rattle.ur_syntax.specs.declared.sql.SqlQuery.{SqlQuery}
 use Rattle.ur_syntax.specs.declared.sql.SqlChange.{SqlChange}
-use Rattle.ur_grammar.specs.Rules.{Read, one}
-use Rattle.ur_grammar.proofs.Once.{read_once}
+use Rattle.ur_parse_rules.specs.Rules.{Read, one}
+use Rattle.ur_parse_rules.proofs.Once.{read_once}
 use Rattle.ur_parse_rules.specs.Quoted.{expressions, raw, Raw, Quoted}
 use Rattle.ur_parse_rules.specs.SqlParts as s
 use Rattle.ur_parse_rules.specs.Parts.{of_sql}
 use Rattle.ur_parse_rules.specs.Language.{language}
 use Rattle.ur_parse_rules.proofs.Choice.{choice}
 use Rattle.ur_parse_rules.proofs.AllDecided.{decided}
-use Rattle.ur_skeletons.specs.Filled.{Fills, AllKnown, OpensBehind}
-use Rattle.ur_skeletons.specs.Laws.{query, change}
-use Rattle.ur_skeletons.proofs.Laws.{is_filled, is_filled_or_open, query_read, query_complete, change_read, change_complete}
-use Rattle.ur_skeletons.proofs.Trimmed.{one_beyond}
+use Rattle.ur_parse_embed_code.specs.Filled.{Fills, AllKnown, OpensBehind}
+use Rattle.ur_parse_embed_code.specs.Laws.{query, change}
+use Rattle.ur_parse_embed_code.proofs.Laws.{is_filled, is_filled_or_open, query_read, query_complete, change_read, change_complete}
+use Rattle.ur_parse_embed_code.proofs.Trimmed.{one_beyond}
 use Rattle.ur_parse_exp.proofs.Skeletons.{Reading, Stripped}
 
 -- ---- queries

@@ -1,8 +1,8 @@
 -- What is read at a place before what: for the end of the recursion.
 use Rattle.std.specs.Prelude.{◌≡◌, ◌+◌, ◌<◌, ℕ}
 use Rattle.std.proofs.Common.{arith}
-use Rattle.ur_parse_parts.specs.declared.operator.Level.{Level}
-use Rattle.ur_parse_parts.specs.declared.operator.Level.TheVariants as level
+use Rattle.ur_parse_con.specs.declared.operator.Level.{Level}
+use Rattle.ur_parse_con.specs.declared.operator.Level.TheVariants as level
 
 abbrev pub rank : Level → ℕ
 rank level.Disjunction = 20

@@ -13,17 +13,17 @@ use Rattle.ur_syntax.specs.declared.con.FieldName.{FieldName}
 use Rattle.ur_syntax.specs.declared.exp.Field.{Field}
 use Rattle.ur_syntax.specs.declared.exp.LetVal.{LetVal}
 use Rattle.ur_syntax.specs.declared.exp.ExpForm.TheVariants as form
-use Rattle.ur_grammar.specs.Rules.{Read, Refused, Stops, no_span, syntax}
-use Rattle.ur_grammar.specs.Places.{Moves, IsAt, IsName, Other, OfKind, Passing, Unexpected, any, span_of, starts}
-use Rattle.ur_grammar.proofs.Tokens.{covers}
-use Rattle.ur_grammar.proofs.Steps.{Leads, nothing, a_mark, a_name, an_one, mark_read, name_read, one_read, one_refused, no_mark, no_name, not_mark, reads_by, refused_by, none_of, leads_here}
-use Rattle.ur_grammar.proofs.Choices.{chosen_mark_at, if_false, starts_at, less}
+use Rattle.ur_parse_rules.specs.Rules.{Read, Refused, Stops, no_span, syntax}
+use Rattle.ur_parse_rules.specs.Places.{Moves, IsAt, IsName, Other, OfKind, Passing, Unexpected, any, span_of, starts}
+use Rattle.ur_parse_rules.proofs.Tokens.{covers}
+use Rattle.ur_parse_rules.proofs.Steps.{Leads, nothing, a_mark, a_name, an_one, mark_read, name_read, one_read, one_refused, no_mark, no_name, not_mark, reads_by, refused_by, none_of, leads_here}
+use Rattle.ur_parse_rules.proofs.Choices.{chosen_mark_at, if_false, starts_at, less}
 use Rattle.ur_base.specs.Stopping.{Says}
 use Rattle.ur_parse_rules.specs.Classes.{Classes, member, in_class, symbol_class, keyword_class}
 use Rattle.ur_parse_rules.specs.Ends.{symbols, operators, semicolon, exp_more}
 use Rattle.ur_parse_rules.specs.Ends as ends
 use Rattle.ur_parse_rules.specs.Expressions.{at}
-use Rattle.ur_parse_rules.specs.declared.place.ConPlace.TheVariants as places
+use Rattle.ur_parse_rules.specs.declared.parse_rules_place.ConPlace.TheVariants as places
 use Rattle.ur_parse_rules.specs.ConParts as c
 use Rattle.ur_parse_rules.specs.ExpParts as e
 use Rattle.ur_parse_rules.specs.Parts.{of_con, of_exp, Ended}
@@ -32,7 +32,7 @@ use Rattle.ur_parse_rules.proofs.Choice.{choice}
 use Rattle.ur_parse_rules.proofs.AllDecided.{decided}
 use Rattle.ur_parse_rules.proofs.Tests.{false_true}
 use Rattle.ur_parse_rules.proofs.Places.{ends_empty, missing, stops_cons}
-use Rattle.ur_parse_pat.proofs.Binders.{cannot_end}
+use Rattle.ur_parse_con.proofs.Binders.{cannot_end}
 use Rattle.ur_parse_exp_parts.proofs.Ending.{stops_both}
 use Rattle.ur_parse_exp_parts.specs.Lists.{field, let_val}
 use Rattle.ur_parse_exp.specs.Lists.{FieldRead, ValRead, ValsRead, ValsRefused, first, behind}

@@ -9,11 +9,11 @@ use Rattle.ur_lex.specs.declared.token.Lexeme.{Lexeme}
 use Rattle.ur_syntax.specs.declared.exp.ExpForm.TheVariants as form
 use Rattle.ur_syntax.specs.declared.exp.Binder.{Binder}
 use Rattle.ur_syntax.specs.declared.exp.Binder.TheVariants as binders
-use Rattle.ur_grammar.specs.Rules.{Read, Refused, Stops, no_span}
-use Rattle.ur_grammar.specs.Places.{Moves, IsAt, Other, OfKind, Unexpected, span_of, starts}
-use Rattle.ur_grammar.proofs.Tokens.{covers}
-use Rattle.ur_grammar.proofs.Steps.{nothing, a_mark, a_name, an_one, mark_read, name_read, one_read, one_refused, no_mark, reads_by, refused_by}
-use Rattle.ur_grammar.proofs.Choices.{chosen_mark_at, if_false, starts_at}
+use Rattle.ur_parse_rules.specs.Rules.{Read, Refused, Stops, no_span}
+use Rattle.ur_parse_rules.specs.Places.{Moves, IsAt, Other, OfKind, Unexpected, span_of, starts}
+use Rattle.ur_parse_rules.proofs.Tokens.{covers}
+use Rattle.ur_parse_rules.proofs.Steps.{nothing, a_mark, a_name, an_one, mark_read, name_read, one_read, one_refused, no_mark, reads_by, refused_by}
+use Rattle.ur_parse_rules.proofs.Choices.{chosen_mark_at, if_false, starts_at}
 use Rattle.ur_parse_rules.specs.Classes.{member, symbol_class, all_of}
 use Rattle.ur_parse_rules.specs.Ends.{symbols, operators, line_more, exp_more}
 use Rattle.ur_parse_rules.specs.Ends as ends
@@ -25,7 +25,7 @@ use Rattle.ur_parse_rules.proofs.Choice.{choice}
 use Rattle.ur_parse_rules.proofs.AllDecided.{decided}
 use Rattle.ur_parse_rules.proofs.Tests.{false_true}
 use Rattle.ur_parse_rules.proofs.Places.{missing, stops_cons}
-use Rattle.ur_parse_pat.proofs.Binders.{cannot_end}
+use Rattle.ur_parse_con.proofs.Binders.{cannot_end}
 use Rattle.ur_parse_exp_parts.specs.Bindings.{Binds, BindsNone, nameless, arrowless}
 use Rattle.ur_parse_exp_parts.proofs.Bindings.{binds_name}
 

@@ -8,17 +8,17 @@ use Rattle.ur_base.specs.declared.refusal.Stop.TheVariants as stop
 use Rattle.ur_base.specs.Stopping.{Says}
 use Rattle.ur_lex.specs.declared.token.Lexeme.{Lexeme}
 use Rattle.ur_syntax.specs.declared.exp.Exp.{Exp}
-use Rattle.ur_grammar.specs.Rules.{AnyOf, Builds, Sym, Read, Refused, NoneReads, Spells, one, syntax, nested}
-use Rattle.ur_grammar.specs.Places.{OfRefusal}
-use Rattle.ur_grammar.proofs.Inversions.{part-out, produced-out, wider}
+use Rattle.ur_parse_rules.specs.Rules.{AnyOf, Builds, Sym, Read, Refused, NoneReads, Spells, one, syntax, nested}
+use Rattle.ur_parse_rules.specs.Places.{OfRefusal}
+use Rattle.ur_parse_rules.proofs.Inversions.{part-out, produced-out, wider}
 use Rattle.ur_parse_rules.specs.Quoted.{expressions, Raw, Quoted}
 use Rattle.ur_parse_rules.specs.Parts.{Part, Tree, of_quote}
 use Rattle.ur_parse_rules.specs.Language.{language, rules}
 use Rattle.ur_parse_rules.proofs.Tests.{false_true}
-use Rattle.ur_parse_code.specs.declared.quotes.Range.{Range}
-use Rattle.ur_parse_code.specs.declared.quotes.Quotes.{Quotes}
-use Rattle.ur_parse_code.specs.Quotes.{Held, held, all_held, within, Numbered}
-use Rattle.ur_skeletons.specs.Filled.{Filled, Fills, OpensBeyond, OpensBehind, Known, filled as known_filled, deep as known_deep, AllKnown}
+use Rattle.ur_parse_embed_code.specs.declared.quotes.Range.{Range}
+use Rattle.ur_parse_embed_code.specs.declared.quotes.Quotes.{Quotes}
+use Rattle.ur_parse_embed_code.specs.Quotes.{Held, held, all_held, within, Numbered}
+use Rattle.ur_parse_embed_code.specs.Filled.{Filled, Fills, OpensBeyond, OpensBehind, Known, filled as known_filled, deep as known_deep, AllKnown}
 use Rattle.ur_parse_exp.specs.declared.code.Codes.{Codes}
 use Rattle.ur_parse_exp.specs.Codes.{code_of, nest, IsExp, IsNone, IsDeep, IsKnown, fits, deep, AllExps, NoneRead, Told}
 use Rattle.ur_parse_exp.specs.Tables.{Coded, AllRead, NoneOfAll}

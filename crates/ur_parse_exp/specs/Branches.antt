@@ -5,7 +5,7 @@ use Rattle.ur_lex.specs.declared.token.TokenKind.TheVariants as token
 use Rattle.ur_lex.specs.declared.token.Lexeme.{Lexeme}
 use Rattle.ur_syntax.specs.declared.exp.Branch.{Branch}
 use Rattle.ur_syntax.specs.declared.exp.Pat.{Pat}
-use Rattle.ur_grammar.specs.Places.{IsAt, OfKind, Reads}
+use Rattle.ur_parse_rules.specs.Places.{IsAt, OfKind, Reads}
 use Rattle.ur_parse_rules.specs.ExpParts.{pat, exp}
 use Rattle.ur_parse_rules.specs.Parts.{of_exp, Ended}
 use Rattle.ur_parse_rules.specs.Language.{language}

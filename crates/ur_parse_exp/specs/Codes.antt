@@ -7,14 +7,14 @@ use Rattle.ur_base.specs.declared.refusal.Stop.TheVariants as stop
 use Rattle.ur_base.specs.Stopping.{Says}
 use Rattle.ur_lex.specs.declared.token.Lexeme.{Lexeme}
 use Rattle.ur_syntax.specs.declared.exp.Exp.{Exp}
-use Rattle.ur_grammar.specs.Rules.{AnyOf, Spells, part, one}
-use Rattle.ur_grammar.specs.Places.{Moves, Reads}
+use Rattle.ur_parse_rules.specs.Rules.{AnyOf, Spells, part, one}
+use Rattle.ur_parse_rules.specs.Places.{Moves, Reads}
 use Rattle.ur_parse_rules.specs.Quoted.{expressions, raw}
 use Rattle.ur_parse_rules.specs.Parts.{of_quote}
 use Rattle.ur_parse_rules.specs.Language.{language}
-use Rattle.ur_parse_code.specs.declared.quotes.Range.{Range}
-use Rattle.ur_parse_code.specs.Quotes.{raw_of}
-use Rattle.ur_skeletons.specs.Filled.{OpensBeyond}
+use Rattle.ur_parse_embed_code.specs.declared.quotes.Range.{Range}
+use Rattle.ur_parse_embed_code.specs.Quotes.{raw_of}
+use Rattle.ur_parse_embed_code.specs.Filled.{OpensBeyond}
 use Rattle.ur_parse_exp.specs.declared.code.Codes.{Codes}
 
 -- raw code stands from i to j

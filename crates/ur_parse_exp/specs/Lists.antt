@@ -4,7 +4,7 @@ use Rattle.ur_base.specs.declared.refusal.Refusal.{Refusal}
 use Rattle.ur_lex.specs.declared.token.Lexeme.{Lexeme}
 use Rattle.ur_syntax.specs.declared.exp.Field.{Field}
 use Rattle.ur_syntax.specs.declared.exp.LetVal.{LetVal}
-use Rattle.ur_grammar.specs.Places.{Reads, Refuses}
+use Rattle.ur_parse_rules.specs.Places.{Reads, Refuses}
 use Rattle.ur_parse_rules.specs.ExpParts as e
 use Rattle.ur_parse_rules.specs.Parts.{of_exp}
 use Rattle.ur_parse_rules.specs.Language.{language}

@@ -4,7 +4,7 @@ use Rattle.ur_lex.specs.declared.token.Lexeme.{Lexeme}
 use Rattle.ur_syntax.specs.declared.exp.Exp.{Exp}
 use Rattle.ur_syntax.specs.declared.exp.ExpForm.TheVariants as form
 use Rattle.ur_syntax.specs.declared.xml.Xml.{Xml}
-use Rattle.ur_grammar.specs.Places.{Reads, span_of}
+use Rattle.ur_parse_rules.specs.Places.{Reads, span_of}
 use Rattle.ur_parse_rules.specs.Quoted.{Quoted, expressions}
 use Rattle.ur_parse_rules.specs.Expressions.{at}
 use Rattle.ur_parse_rules.specs.XmlParts.{literal}

@@ -4,9 +4,9 @@ use Rattle.ur_base.specs.declared.refusal.Refusal.{Refusal}
 use Rattle.ur_base.specs.Stopping.{Says}
 use Rattle.ur_lex.specs.declared.token.Lexeme.{Lexeme}
 use Rattle.ur_syntax.specs.declared.exp.Exp.{Exp}
-use Rattle.ur_grammar.specs.Rules.{AnyOf}
+use Rattle.ur_parse_rules.specs.Rules.{AnyOf}
 use Rattle.ur_parse_rules.specs.Quoted.{Quoted}
-use Rattle.ur_parse_code.specs.declared.quotes.Quotes.{Quotes}
+use Rattle.ur_parse_embed_code.specs.declared.quotes.Quotes.{Quotes}
 use Rattle.ur_parse_exp.specs.declared.code.Codes.{Codes}
 use Rattle.ur_parse_exp.specs.Codes.{IsNone, CodesRead}
 

@@ -2,7 +2,7 @@
 ghost use Rattle.std.specs.Prelude.{◌≡◌, ◌+◌, IfOk, Bool, drop, true};
 ghost use Rattle.ur_lex.specs.declared.token.Symbol.TheVariants as symbol;
 ghost use Rattle.ur_lex.specs.declared.token.TokenKind.TheVariants as token;
-ghost use Rattle.ur_grammar.specs.Places.{Moves, Reads, Refuses, IfRefused, IsAt, OfKind, span_of, starts};
+ghost use Rattle.ur_parse_rules.specs.Places.{Moves, Reads, Refuses, IfRefused, IsAt, OfKind, span_of, starts};
 ghost use Rattle.ur_parse_rules.specs.Classes.{member};
 ghost use Rattle.ur_parse_rules.specs.Ends.{exp_args};
 ghost use Rattle.ur_parse_rules.specs.ExpParts as e;
@@ -19,17 +19,15 @@ use crate::line::exp;
 use crate::markup::markup;
 use std::alloc::Global;
 use ur_base::{Boxed, Stop};
-use ur_grammar::{Parsed, expect, expect_name, sees, span, unexpected};
 use ur_lex::{Keyword, Symbol, TokenKind, Tokens};
-use ur_parse_code::absent;
 use ur_parse_con::read_con;
-use ur_parse_exp_forms::{boxed_con, folded};
+use ur_parse_embed_code::absent;
 use ur_parse_exp_parts::{
-    FormWord, Given, Single, as_type, as_value, expect_word_of, form_at, inner, read_capital,
-    read_dots, read_nil, read_simple, record_of, sees_base, sees_post, sees_word_of, unit_of,
-    with_one,
+    FormWord, Given, Single, as_type, as_value, boxed_con, expect_word_of, folded, form_at, inner,
+    read_capital, read_dots, read_nil, read_simple, record_of, sees_base, sees_post, sees_word_of,
+    unit_of, with_one,
 };
-use ur_parse_rules::ConPlace;
+use ur_parse_rules::{ConPlace, Parsed, expect, expect_name, sees, span, unexpected};
 use ur_syntax::Exp;
 
 /// What stands at the head of an application.

@@ -1,7 +1,7 @@
 //! The code of antiquotes, read as expressions.
 ghost use Rattle.std.specs.Prelude.{◌≡◌, ◌↔◌, ◌<◌, ◌-◌, ◌++◌, ◌∷◌, [], true, IsTrue, IfOk, OnOk};
 ghost use Rattle.ur_base.specs.Stopping.{Says};
-ghost use Rattle.ur_grammar.specs.Places.{Moves, Reads, Refuses, IfRefused};
+ghost use Rattle.ur_parse_rules.specs.Places.{Moves, Reads, Refuses, IfRefused};
 ghost use Rattle.ur_parse_rules.specs.Quoted.{expressions};
 ghost use Rattle.ur_parse_rules.specs.Parts.{of_quote};
 ghost use Rattle.ur_parse_rules.specs.Language.{language};
@@ -10,10 +10,10 @@ ghost use Rattle.ur_parse_exp.specs.Codes.{IsRaw, Sits, IsNone, CodesRead, CodeR
 use crate::line::exp;
 use std::alloc::Global;
 use ur_base::{Boxed, List, Stop};
-use ur_grammar::{Parsed, unexpected};
 use ur_lex::Tokens;
-use ur_parse_code::{Range, quoted};
+use ur_parse_embed_code::{Range, quoted};
 use ur_parse_exp_parts::{inner, with_code};
+use ur_parse_rules::{Parsed, unexpected};
 use ur_syntax::Exp;
 
 /// The expressions of code, and whether code nests too deep, whose expression is then not among them.

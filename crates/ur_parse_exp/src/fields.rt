@@ -2,7 +2,7 @@
 ghost use Rattle.std.specs.Prelude.{◌≡◌, ◌+◌, IfOk, Bool};
 ghost use Rattle.ur_lex.specs.declared.token.Keyword.TheVariants as keyword;
 ghost use Rattle.ur_lex.specs.declared.token.TokenKind.TheVariants as token;
-ghost use Rattle.ur_grammar.specs.Places.{Moves, Reads, Refuses, IfRefused, IsAt, OfKind};
+ghost use Rattle.ur_parse_rules.specs.Places.{Moves, Reads, Refuses, IfRefused, IsAt, OfKind};
 ghost use Rattle.ur_parse_rules.specs.ExpParts as e;
 ghost use Rattle.ur_parse_rules.specs.Parts.{of_exp};
 ghost use Rattle.ur_parse_rules.specs.Language.{language};
@@ -11,12 +11,11 @@ ghost use Rattle.ur_parse_exp.specs.Lists.{FieldRead, ValRead, ValsRead, ValsRef
 use crate::line::exp;
 use std::alloc::Global;
 use ur_base::{Boxed, List, Stop};
-use ur_grammar::{Parsed, expect, expect_name, sees, span};
 use ur_lex::{Keyword, Symbol, TokenKind, Tokens};
-use ur_parse_code::absent;
 use ur_parse_con::{expect_field_name, read_con};
+use ur_parse_embed_code::absent;
 use ur_parse_exp_parts::{let_of, with_field, with_let_val};
-use ur_parse_rules::ConPlace;
+use ur_parse_rules::{ConPlace, Parsed, expect, expect_name, sees, span};
 use ur_syntax::{Exp, Field, LetVal};
 
 /// The fields of a record with commas between, and `}`.

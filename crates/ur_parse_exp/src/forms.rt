@@ -1,25 +1,25 @@
 //! Forms that a word begins.
 ghost use Rattle.std.specs.Prelude.{◌≡◌, IfOk};
-ghost use Rattle.ur_grammar.specs.Places.{Moves, Reads, Refuses, IfRefused};
+ghost use Rattle.ur_parse_rules.specs.Places.{Moves, Reads, Refuses, IfRefused};
 ghost use Rattle.ur_parse_rules.specs.ExpParts as e;
 ghost use Rattle.ur_parse_rules.specs.Parts.{of_exp};
 ghost use Rattle.ur_parse_rules.specs.Language.{language};
 ghost use Rattle.ur_parse_exp_parts.specs.declared.word.FormWord.TheVariants as form_word;
 ghost use Rattle.ur_parse_exp_parts.specs.Words.{Stands};
-ghost use Rattle.ur_parse_exp_forms.specs.Shapes.{query_word};
+ghost use Rattle.ur_parse_exp_parts.specs.Shapes.{query_word};
 
 use crate::atom::{fold, post, worded};
 use crate::line::lambda;
 use crate::tables::{change, query};
 use std::alloc::Global;
 use ur_base::{Boxed, Stop};
-use ur_grammar::{Parsed, expect, span};
 use ur_lex::{Symbol, TokenKind, Tokens};
-use ur_parse_code::absent;
-use ur_parse_exp_forms::{
-    Shape, decl_name, dml_of, query_of, query_x_of, read_get_cookie, read_nextval, shape_of,
+use ur_parse_embed_code::absent;
+use ur_parse_exp_parts::{
+    FormWord, Shape, decl_name, dml_of, query_of, query_x_of, read_get_cookie, read_nextval,
+    set_cookie_of, shape_of,
 };
-use ur_parse_exp_parts::{FormWord, set_cookie_of};
+use ur_parse_rules::{Parsed, expect, span};
 use ur_syntax::{Exp, QueryWord};
 
 /// A form, whose word stands at a place.

@@ -1,22 +1,21 @@
 //! Operators.
 ghost use Rattle.std.specs.Prelude.{◌≡◌, IfOk, Some};
-ghost use Rattle.ur_grammar.specs.Places.{Moves, Reads, Refuses, IfRefused};
+ghost use Rattle.ur_parse_rules.specs.Places.{Moves, Reads, Refuses, IfRefused};
 ghost use Rattle.ur_parse_rules.specs.ExpParts as e;
 ghost use Rattle.ur_parse_rules.specs.Parts.{of_exp};
 ghost use Rattle.ur_parse_rules.specs.Language.{language};
-ghost use Rattle.ur_parse_parts.specs.Operators.{level_of, SignAt};
+ghost use Rattle.ur_parse_con.specs.Operators.{level_of, SignAt};
 ghost use Rattle.ur_parse_exp_parts.specs.Lists.{StepRead};
 
 use crate::atom::{argument, head};
 use std::alloc::Global;
 use ur_base::{Boxed, List, Stop};
-use ur_grammar::{Parsed, below, pushed, sees, span, unexpected};
 use ur_lex::{Symbol, TokenKind, Tokens};
-use ur_parse_con::taller;
+use ur_parse_con::{Level, Sign, comparison_at, sign_at, taller};
 use ur_parse_exp_parts::{
     Double, Piece, Single, apply, listed, read_gone, sees_argument, with_one, with_two,
 };
-use ur_parse_parts::{Level, Sign, comparison_at, sign_at};
+use ur_parse_rules::{Parsed, below, pushed, sees, span, unexpected};
 use ur_syntax::Exp;
 
 /// What the operators of a level stand between.

@@ -1,24 +1,23 @@
 //! Statements, `if`, `fn` and `case`.
 ghost use Rattle.std.specs.Prelude.{◌≡◌, ℕ, IfOk};
-ghost use Rattle.ur_grammar.specs.Places.{Moves, Reads, Refuses, IfRefused};
+ghost use Rattle.ur_parse_rules.specs.Places.{Moves, Reads, Refuses, IfRefused};
 ghost use Rattle.ur_parse_rules.specs.ExpParts.{exp, line, lambda, bar, branches};
 ghost use Rattle.ur_parse_rules.specs.Parts.{of_exp};
 ghost use Rattle.ur_parse_rules.specs.Language.{language};
-ghost use Rattle.ur_parse_pat.specs.Forms.{Stays};
+ghost use Rattle.ur_parse_con.specs.Forms.{Stays};
 ghost use Rattle.ur_parse_exp_parts.specs.Lines.{ended};
 ghost use Rattle.ur_parse_exp.specs.Branches.{BranchRead};
 
 use crate::level::left;
 use std::alloc::Global;
 use ur_base::{List, Stop};
-use ur_grammar::{Parsed, below, expect, sees, span, too_deep, unexpected};
 use ur_lex::{Keyword, Symbol, TokenKind, Tokens};
+use ur_parse_con::{Level, read_pat};
 use ur_parse_exp_parts::{
     Line, bind_of, binding, case_of, closed, conditional_of, lambda_of, read_lambda_head,
     sees_binding, sequence_of, with_branch,
 };
-use ur_parse_parts::Level;
-use ur_parse_pat::read_pat;
+use ur_parse_rules::{Parsed, below, expect, sees, span, too_deep, unexpected};
 use ur_syntax::Branch;
 
 /// An expression with at most `depth` nested, itself among them, and at most `levels` unary minus signs, `else if` and

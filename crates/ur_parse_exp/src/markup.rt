@@ -1,6 +1,6 @@
 //! XML in expressions. Its skeleton is read first, with code as the tokens that it is, and then the code.
 ghost use Rattle.std.specs.Prelude.{◌≡◌, ◌||◌, IfOk, OnOk};
-ghost use Rattle.ur_grammar.specs.Places.{Moves, Refuses, IfRefused, OfRefusal};
+ghost use Rattle.ur_parse_rules.specs.Places.{Moves, Refuses, IfRefused, OfRefusal};
 ghost use Rattle.ur_parse_rules.specs.Quoted.{expressions, raw};
 ghost use Rattle.ur_parse_rules.specs.Expressions.{at};
 ghost use Rattle.ur_syntax.specs.declared.exp.ExpForm.TheVariants as form;
@@ -13,12 +13,11 @@ ghost use Rattle.ur_parse_exp.specs.Markups.{IsMarkup};
 use crate::code::{Codes, read_codes};
 use std::alloc::Global;
 use ur_base::{Boxed, Span, Stop};
-use ur_grammar::{Parsed, span, too_deep};
 use ur_lex::Tokens;
-use ur_parse_code::Quotes;
 use ur_parse_con::taller;
+use ur_parse_embed_code::{Quotes, read_literal};
 use ur_parse_exp_parts::xml_of;
-use ur_parse_xml::read_literal;
+use ur_parse_rules::{Parsed, span, too_deep};
 use ur_syntax::{Exp, Xml};
 
 /// The greatest nesting of a literal that nests too deep and whose code is looked at still: the stack is memory, and more

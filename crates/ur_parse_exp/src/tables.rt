@@ -1,6 +1,6 @@
 //! SQL in expressions. Its skeleton is read first, with code as the tokens that it is, and then the code.
 ghost use Rattle.std.specs.Prelude.{◌≡◌, IfOk};
-ghost use Rattle.ur_grammar.specs.Places.{Moves, Reads, Refuses, IfRefused, OfRefusal};
+ghost use Rattle.ur_parse_rules.specs.Places.{Moves, Reads, Refuses, IfRefused, OfRefusal};
 ghost use Rattle.ur_parse_rules.specs.Quoted.{expressions, raw};
 ghost use Rattle.ur_parse_rules.specs.SqlParts as part;
 ghost use Rattle.ur_parse_rules.specs.Parts.{of_sql};
@@ -11,11 +11,10 @@ use crate::code::{Codes, read_codes};
 use crate::markup::{deeper, either, plain};
 use std::alloc::Global;
 use ur_base::{Boxed, List, Stop};
-use ur_grammar::{Parsed, boxed, too_deep};
 use ur_lex::Tokens;
-use ur_parse_change::read_change;
-use ur_parse_code::Quotes;
-use ur_parse_select::read_query;
+use ur_parse_embed::{read_change, read_query};
+use ur_parse_embed_code::Quotes;
+use ur_parse_rules::{Parsed, boxed, too_deep};
 use ur_syntax::{Exp, SqlChange, SqlQuery};
 
 /// The greatest nesting of SQL that nests too deep and whose code is looked at still: the stack is memory, and more is

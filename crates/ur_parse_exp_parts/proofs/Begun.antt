@@ -4,10 +4,10 @@ use Rattle.std.proofs.Common.{sym, ◌∙◌, inl, inr}
 use Rattle.ur_base.specs.declared.refusal.Refusal.{Refusal}
 use Rattle.ur_base.specs.Stopping.{Says}
 use Rattle.ur_lex.specs.declared.token.Lexeme.{Lexeme}
-use Rattle.ur_grammar.specs.Rules.{Refused, syntax}
-use Rattle.ur_grammar.specs.Places.{starts}
-use Rattle.ur_grammar.proofs.Choices.{Begins, not_one}
-use Rattle.ur_grammar.proofs.Steps.{nothing, an_one}
+use Rattle.ur_parse_rules.specs.Rules.{Refused, syntax}
+use Rattle.ur_parse_rules.specs.Places.{starts}
+use Rattle.ur_parse_rules.proofs.Choices.{Begins, not_one}
+use Rattle.ur_parse_rules.proofs.Steps.{nothing, an_one}
 use Rattle.ur_parse_rules.specs.Classes.{member}
 use Rattle.ur_parse_rules.specs.Parts.{Part}
 use Rattle.ur_parse_rules.specs.Language.{language}

@@ -6,10 +6,10 @@ use Rattle.ur_lex.specs.declared.token.Symbol.TheVariants as symbol
 use Rattle.ur_lex.specs.declared.token.TokenKind.TheVariants as token
 use Rattle.ur_lex.specs.declared.token.Lexeme.{Lexeme}
 use Rattle.ur_lex.specs.Spelling.{Text}
-use Rattle.ur_grammar.specs.Rules.{Refused}
-use Rattle.ur_grammar.specs.Places.{IsAt, IsName, Other, OfKind, Passing, Unexpected, starts}
-use Rattle.ur_grammar.proofs.Steps.{mark_read, name_read, no_mark, no_name, refused_by}
-use Rattle.ur_grammar.proofs.Choices.{chosen_mark_at, if_true}
+use Rattle.ur_parse_rules.specs.Rules.{Refused}
+use Rattle.ur_parse_rules.specs.Places.{IsAt, IsName, Other, OfKind, Passing, Unexpected, starts}
+use Rattle.ur_parse_rules.proofs.Steps.{mark_read, name_read, no_mark, no_name, refused_by}
+use Rattle.ur_parse_rules.proofs.Choices.{chosen_mark_at, if_true}
 use Rattle.ur_parse_rules.specs.Classes.{member, all_of, symbol_class}
 use Rattle.ur_parse_rules.specs.Words.{is_name}
 use Rattle.ur_parse_rules.specs.ExpParts.{exp}

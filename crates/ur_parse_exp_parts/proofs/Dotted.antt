@@ -10,11 +10,11 @@ use Rattle.ur_lex.specs.declared.token.Lexeme.{Lexeme}
 use Rattle.ur_syntax.specs.declared.con.FieldName.{FieldName}
 use Rattle.ur_syntax.specs.declared.exp.Exp.{Exp}
 use Rattle.ur_syntax.specs.declared.exp.ExpForm.TheVariants as form
-use Rattle.ur_grammar.specs.Rules.{Read, Refused, no_span}
-use Rattle.ur_grammar.specs.Places.{Moves, IsAt, Other, OfKind, span_of}
-use Rattle.ur_grammar.proofs.Tokens.{covers}
-use Rattle.ur_grammar.proofs.Steps.{Leads, nothing, a_mark, an_one, mark_read, one_read, one_refused, reads_by, refused_by, leads_here}
-use Rattle.ur_grammar.proofs.Choices.{chosen_mark_at}
+use Rattle.ur_parse_rules.specs.Rules.{Read, Refused, no_span}
+use Rattle.ur_parse_rules.specs.Places.{Moves, IsAt, Other, OfKind, span_of}
+use Rattle.ur_parse_rules.proofs.Tokens.{covers}
+use Rattle.ur_parse_rules.proofs.Steps.{Leads, nothing, a_mark, an_one, mark_read, one_read, one_refused, reads_by, refused_by, leads_here}
+use Rattle.ur_parse_rules.proofs.Choices.{chosen_mark_at}
 use Rattle.ur_parse_rules.specs.Forms.{up_to}
 use Rattle.ur_parse_rules.specs.Expressions.{at, projected}
 use Rattle.ur_parse_rules.specs.ConParts.{field_name}

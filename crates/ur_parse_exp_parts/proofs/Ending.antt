@@ -4,8 +4,8 @@ use Rattle.std.proofs.Common.{sym, ◌∙◌, ap}
 use Rattle.ur_lex.specs.declared.token.TokenKind.{TokenKind}
 use Rattle.ur_lex.specs.declared.token.Lexeme.{Lexeme}
 use Rattle.ur_lex.specs.Spelling.{Text}
-use Rattle.ur_grammar.specs.Rules.{Stops}
-use Rattle.ur_grammar.specs.Places.{starts}
+use Rattle.ur_parse_rules.specs.Rules.{Stops}
+use Rattle.ur_parse_rules.specs.Places.{starts}
 use Rattle.ur_parse_rules.specs.Classes.{Classes, in_class, member}
 use Rattle.ur_parse_rules.proofs.Tests.{false_true}
 

@@ -12,10 +12,10 @@ use Rattle.ur_syntax.specs.declared.exp.Binder.{Binder}
 use Rattle.ur_syntax.specs.declared.exp.Param.{Param}
 use Rattle.ur_syntax.specs.declared.exp.LambdaParam.{LambdaParam}
 use Rattle.ur_syntax.specs.declared.exp.LambdaParam.TheVariants as params
-use Rattle.ur_grammar.specs.Rules.{Read, Refused, Stops, no_span}
-use Rattle.ur_grammar.specs.Places.{IsAt, Other, OfKind, Unexpected, starts}
-use Rattle.ur_grammar.proofs.Steps.{Leads, nothing, an_one, mark_read, one_read, one_refused, no_mark, reads_by, refused_by, leads_here}
-use Rattle.ur_grammar.proofs.Choices.{chosen_mark_at, if_true, if_false, first_stops, starts_at}
+use Rattle.ur_parse_rules.specs.Rules.{Read, Refused, Stops, no_span}
+use Rattle.ur_parse_rules.specs.Places.{IsAt, Other, OfKind, Unexpected, starts}
+use Rattle.ur_parse_rules.proofs.Steps.{Leads, nothing, an_one, mark_read, one_read, one_refused, no_mark, reads_by, refused_by, leads_here}
+use Rattle.ur_parse_rules.proofs.Choices.{chosen_mark_at, if_true, if_false, first_stops, starts_at}
 use Rattle.ur_parse_rules.specs.Classes.{member, in_class, symbol_class}
 use Rattle.ur_parse_rules.specs.Ends.{binder_starts}
 use Rattle.ur_parse_rules.specs.ConParts.{con_param}

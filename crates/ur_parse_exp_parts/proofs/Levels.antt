@@ -18,11 +18,11 @@ use Rattle.ur_syntax.specs.declared.exp.ExpForm.TheVariants as form
 use Rattle.ur_syntax.specs.declared.exp.Binary.{Binary}
 use Rattle.ur_syntax.specs.declared.exp.Binary.TheVariants as op
 use Rattle.ur_syntax.specs.declared.exp.Removed.{Removed}
-use Rattle.ur_grammar.specs.Rules.{Read, Refused, Stops, no_span}
-use Rattle.ur_grammar.specs.Places.{Moves, IsAt, Other, OfKind, span_of, starts}
-use Rattle.ur_grammar.proofs.Tokens.{covers}
-use Rattle.ur_grammar.proofs.Steps.{Leads, nothing, a_mark, an_one, mark_read, one_read, one_refused, reads_by, refused_by, leads_here}
-use Rattle.ur_grammar.proofs.Choices.{chosen_mark_at, if_true, first_stops, starts_at}
+use Rattle.ur_parse_rules.specs.Rules.{Read, Refused, Stops, no_span}
+use Rattle.ur_parse_rules.specs.Places.{Moves, IsAt, Other, OfKind, span_of, starts}
+use Rattle.ur_parse_rules.proofs.Tokens.{covers}
+use Rattle.ur_parse_rules.proofs.Steps.{Leads, nothing, a_mark, an_one, mark_read, one_read, one_refused, reads_by, refused_by, leads_here}
+use Rattle.ur_parse_rules.proofs.Choices.{chosen_mark_at, if_true, first_stops, starts_at}
 use Rattle.ur_parse_rules.specs.Forms.{up_to}
 use Rattle.ur_parse_rules.specs.Classes.{member}
 use Rattle.ur_parse_rules.specs.Ends.{level_more, operand_more, sum_more, product_more, app_more, dot_class, exp_args}
@@ -35,13 +35,13 @@ use Rattle.ur_parse_rules.proofs.Choice.{choice}
 use Rattle.ur_parse_rules.proofs.AllDecided.{decided}
 use Rattle.ur_parse_rules.proofs.Tests.{false_true, is_not}
 use Rattle.ur_parse_rules.proofs.Places.{missing, span_join}
-use Rattle.ur_parse_pat.proofs.Binders.{cannot_end}
+use Rattle.ur_parse_con.proofs.Binders.{cannot_end}
 use Rattle.ur_parse_exp_parts.proofs.Ending.{stops_both, skips}
-use Rattle.ur_parse_parts.specs.declared.operator.Level.{Level}
-use Rattle.ur_parse_parts.specs.declared.operator.Level.TheVariants as level
-use Rattle.ur_parse_parts.specs.declared.operator.Sign.{Sign}
-use Rattle.ur_parse_parts.specs.declared.operator.Sign.TheVariants as signs
-use Rattle.ur_parse_parts.specs.Operators.{level_of, sign, sign_of, SignAt}
+use Rattle.ur_parse_con.specs.declared.operator.Level.{Level}
+use Rattle.ur_parse_con.specs.declared.operator.Level.TheVariants as level
+use Rattle.ur_parse_con.specs.declared.operator.Sign.{Sign}
+use Rattle.ur_parse_con.specs.declared.operator.Sign.TheVariants as signs
+use Rattle.ur_parse_con.specs.Operators.{level_of, sign, sign_of, SignAt}
 use Rattle.ur_parse_exp_parts.specs.Lists.{StepRead}
 
 -- ---- one step

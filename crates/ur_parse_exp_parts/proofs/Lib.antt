@@ -1,4 +1,3 @@
-pub mod Naming
 pub mod Beginning
 pub mod Bindings
 pub mod Dotted
@@ -9,3 +8,5 @@ pub mod Begun
 pub mod Simples
 pub mod Levels
 pub mod Joined
+pub mod ParseExpFormsNaming
+pub mod Shaping

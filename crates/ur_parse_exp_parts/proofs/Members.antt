@@ -8,11 +8,11 @@ use Rattle.ur_lex.specs.declared.token.Lexeme.{Lexeme}
 use Rattle.ur_lex.specs.Spelling.{Text}
 use Rattle.ur_syntax.specs.declared.exp.Exp.{Exp}
 use Rattle.ur_syntax.specs.declared.exp.ExpForm.TheVariants as form
-use Rattle.ur_grammar.specs.Rules.{Read, Refused, no_span, syntax}
-use Rattle.ur_grammar.specs.Places.{Moves, IsAt, IsName, Other, OfKind, Passing, Unexpected, any, span_of}
-use Rattle.ur_grammar.proofs.Tokens.{covers}
-use Rattle.ur_grammar.proofs.Steps.{nothing, a_mark, a_name, an_one, mark_read, one_read, one_refused, no_name, not_name, any_other, reads_by, refused_by, none_of}
-use Rattle.ur_grammar.proofs.Choices.{chosen_mark_at}
+use Rattle.ur_parse_rules.specs.Rules.{Read, Refused, no_span, syntax}
+use Rattle.ur_parse_rules.specs.Places.{Moves, IsAt, IsName, Other, OfKind, Passing, Unexpected, any, span_of}
+use Rattle.ur_parse_rules.proofs.Tokens.{covers}
+use Rattle.ur_parse_rules.proofs.Steps.{nothing, a_mark, a_name, an_one, mark_read, one_read, one_refused, no_name, not_name, any_other, reads_by, refused_by, none_of}
+use Rattle.ur_parse_rules.proofs.Choices.{chosen_mark_at}
 use Rattle.ur_parse_rules.specs.Expressions.{at, projected}
 use Rattle.ur_parse_rules.specs.ExpParts.{member, dots, capital_rest}
 use Rattle.ur_parse_rules.specs.Parts.{of_exp, lower, upper, alone, of_module}

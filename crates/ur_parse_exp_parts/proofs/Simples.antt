@@ -7,13 +7,13 @@ use Rattle.ur_lex.specs.declared.token.TokenKind.TheVariants as token
 use Rattle.ur_lex.specs.declared.token.Lexeme.{Lexeme}
 use Rattle.ur_lex.specs.Spelling.{Text}
 use Rattle.ur_syntax.specs.declared.exp.ExpForm.TheVariants as form
-use Rattle.ur_grammar.specs.Numbers.{IsInt}
-use Rattle.ur_grammar.specs.Rules.{Read, Refused, syntax}
-use Rattle.ur_grammar.specs.Places.{Moves, IsAt, IsName, Other, OfKind, Passing, Unexpected, any, span_of}
-use Rattle.ur_grammar.proofs.Tokens.{covers}
-use Rattle.ur_grammar.proofs.Numbers.{not_number}
-use Rattle.ur_grammar.proofs.Steps.{nothing, a_name, a_number, no_name, not_mark, not_name, any_other, reads_by, refused_by, none_of}
-use Rattle.ur_grammar.proofs.Choices.{chosen_mark_at, not_one, stops_first}
+use Rattle.ur_parse_rules.specs.Numbers.{IsInt}
+use Rattle.ur_parse_rules.specs.Rules.{Read, Refused, syntax}
+use Rattle.ur_parse_rules.specs.Places.{Moves, IsAt, IsName, Other, OfKind, Passing, Unexpected, any, span_of}
+use Rattle.ur_parse_rules.proofs.Tokens.{covers}
+use Rattle.ur_parse_rules.proofs.Numbers.{not_number}
+use Rattle.ur_parse_rules.proofs.Steps.{nothing, a_name, a_number, no_name, not_mark, not_name, any_other, reads_by, refused_by, none_of}
+use Rattle.ur_parse_rules.proofs.Choices.{chosen_mark_at, not_one, stops_first}
 use Rattle.ur_parse_rules.specs.Classes.{member}
 use Rattle.ur_parse_rules.specs.Words.{is_name}
 use Rattle.ur_parse_rules.specs.Expressions.{at}

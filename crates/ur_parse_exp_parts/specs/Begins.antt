@@ -8,7 +8,7 @@ use Rattle.ur_lex.specs.declared.token.TokenKind.{TokenKind}
 use Rattle.ur_lex.specs.declared.token.TokenKind.TheVariants as token
 use Rattle.ur_lex.specs.declared.token.Lexeme.{Lexeme}
 use Rattle.ur_lex.specs.Spelling.{Text}
-use Rattle.ur_grammar.specs.Places.{Other, OfKind}
+use Rattle.ur_parse_rules.specs.Places.{Other, OfKind}
 use Rattle.ur_parse_rules.specs.Words.{is_name}
 
 -- the symbols that open an atom, but `[`

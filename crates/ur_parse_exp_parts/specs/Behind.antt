@@ -4,8 +4,8 @@ use Rattle.ur_lex.specs.declared.token.Lexeme.{Lexeme}
 use Rattle.ur_lex.specs.Spelling.{Text}
 use Rattle.ur_syntax.specs.declared.exp.Exp.{Exp}
 use Rattle.ur_syntax.specs.declared.exp.ExpForm.TheVariants as form
-use Rattle.ur_grammar.specs.Rules.{Read}
-use Rattle.ur_grammar.specs.Places.{span_of}
+use Rattle.ur_parse_rules.specs.Rules.{Read}
+use Rattle.ur_parse_rules.specs.Places.{span_of}
 use Rattle.ur_parse_rules.specs.Expressions.{at, projected, capital_of}
 use Rattle.ur_parse_rules.specs.ExpParts.{dots, capital_rest}
 use Rattle.ur_parse_rules.specs.Parts.{of_exp, Dot, Capital}

@@ -5,7 +5,7 @@ use Rattle.ur_lex.specs.declared.token.TokenKind.TheVariants as token
 use Rattle.ur_lex.specs.declared.token.Lexeme.{Lexeme}
 use Rattle.ur_syntax.specs.declared.exp.Binder.{Binder}
 use Rattle.ur_syntax.specs.declared.exp.Binder.TheVariants as binders
-use Rattle.ur_grammar.specs.Places.{IsAt, IsName, Other, OfKind}
+use Rattle.ur_parse_rules.specs.Places.{IsAt, IsName, Other, OfKind}
 use Rattle.ur_parse_rules.specs.Words.{is_name}
 
 -- a binder and `<-` stand from i to j

@@ -6,7 +6,7 @@ use Rattle.ur_lex.specs.declared.token.Symbol.TheVariants as symbol
 use Rattle.ur_lex.specs.declared.token.TokenKind.TheVariants as token
 use Rattle.ur_lex.specs.declared.token.Lexeme.{Lexeme}
 use Rattle.ur_syntax.specs.declared.exp.LambdaParam.{LambdaParam}
-use Rattle.ur_grammar.specs.Places.{IsAt, OfKind, Reads, Refuses}
+use Rattle.ur_parse_rules.specs.Places.{IsAt, OfKind, Reads, Refuses}
 use Rattle.ur_parse_rules.specs.Classes.{Classes}
 use Rattle.ur_parse_rules.specs.Ends.{symbols, binder_starts}
 use Rattle.ur_parse_rules.specs.ExpParts.{lambda_param, lambda_params}

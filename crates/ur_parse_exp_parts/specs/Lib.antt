@@ -7,3 +7,4 @@ pub mod Lists
 pub mod Behind
 pub mod Forms
 pub mod Heads
+pub mod Shapes

@@ -12,8 +12,8 @@ use Rattle.ur_syntax.specs.declared.exp.LetVal.{LetVal}
 use Rattle.ur_syntax.specs.declared.exp.Pat.{Pat}
 use Rattle.ur_syntax.specs.declared.exp.ExpForm.TheVariants as form
 use Rattle.ur_syntax.specs.declared.exp.Binary.TheVariants as op
-use Rattle.ur_grammar.specs.Rules.{Read}
-use Rattle.ur_grammar.specs.Places.{span_of}
+use Rattle.ur_parse_rules.specs.Rules.{Read}
+use Rattle.ur_parse_rules.specs.Places.{span_of}
 use Rattle.ur_parse_rules.specs.Forms.{up_to}
 use Rattle.ur_parse_rules.specs.Expressions.{at, step_of}
 use Rattle.ur_parse_rules.specs.ExpParts as e

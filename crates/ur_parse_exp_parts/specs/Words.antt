@@ -1,22 +1,12 @@
 -- Words that begin a form.
-use Rattle.std.specs.Prelude.{ℕ, ◌+◌, List, [], ◌∷◌, codes, Option, Some, None}
+use Rattle.std.specs.Prelude.{ℕ, ◌+◌, List, codes, Option, Some, None}
 use Rattle.ur_lex.specs.declared.token.TokenKind.{TokenKind}
 use Rattle.ur_lex.specs.declared.token.TokenKind.TheVariants as token
 use Rattle.ur_lex.specs.declared.token.Lexeme.{Lexeme}
 use Rattle.ur_lex.specs.Spelling.{Text}
-use Rattle.ur_grammar.specs.Places.{IsAt, Other, Spelled}
+use Rattle.ur_parse_rules.specs.Places.{IsAt, Other, Spelled}
 use Rattle.ur_parse_exp_parts.specs.declared.word.FormWord.{FormWord}
 use Rattle.ur_parse_exp_parts.specs.declared.word.FormWord.TheVariants as form
-
--- the words that a form begins with, in groups
-abbrev pub plain_words : List Text
-plain_words = codes "return" ∷ codes "show" ∷ codes "not" ∷ codes "error" ∷ codes "Some" ∷ []
-
-abbrev pub state_words : List Text
-state_words = codes "nextval" ∷ codes "getCookie" ∷ codes "setCookie" ∷ []
-
-abbrev pub sql_words : List Text
-sql_words = codes "dml" ∷ codes "queryL" ∷ codes "oneRow" ∷ codes "oneOrNoRows" ∷ codes "queryX" ∷ codes "fold" ∷ []
 
 -- how a form's word is spelled
 abbrev pub kind_of : FormWord → TokenKind

@@ -1,6 +1,6 @@
 //! Arguments.
 ghost use Rattle.std.specs.Prelude.{◌≡◌, IfOk};
-ghost use Rattle.ur_grammar.specs.Places.{IfRefused};
+ghost use Rattle.ur_parse_rules.specs.Places.{IfRefused};
 ghost use Rattle.ur_parse_rules.specs.Parts.{value, type};
 ghost use Rattle.ur_parse_rules.specs.Expressions.{apply_to};
 ghost use Rattle.ur_parse_exp_parts.specs.Arguments.{given_of};
@@ -8,7 +8,7 @@ ghost use Rattle.ur_parse_exp_parts.specs.Arguments.{given_of};
 use crate::form::{Double, con_applied, with_two};
 use std::alloc::Global;
 use ur_base::{Boxed, Span, Stop};
-use ur_grammar::Parsed;
+use ur_parse_rules::Parsed;
 use ur_syntax::{Con, Exp};
 
 /// An argument: an expression, or a constructor in brackets.

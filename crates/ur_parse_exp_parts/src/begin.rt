@@ -1,13 +1,13 @@
 //! What expressions begin with.
 ghost use Rattle.std.specs.Prelude.{◌≡◌, drop};
-ghost use Rattle.ur_grammar.specs.Places.{starts};
+ghost use Rattle.ur_parse_rules.specs.Places.{starts};
 ghost use Rattle.ur_parse_rules.specs.Classes.{member};
 ghost use Rattle.ur_parse_rules.specs.Ends.{exp_args};
 ghost use Rattle.ur_parse_exp_parts.specs.Begins.{opens, opens_let, opens_post, begins_base, begins_post, begins_argument};
 
 use crate::word::is_name;
-use ur_grammar::peek;
 use ur_lex::{Keyword, Symbol, TokenKind, Tokens};
+use ur_parse_rules::peek;
 
 fn opens(symbol: Symbol) -> bool
     ensures { result ≡ opens symbol }

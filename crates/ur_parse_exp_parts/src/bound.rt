@@ -1,6 +1,6 @@
 //! `_ <-` and `x <-`.
 ghost use Rattle.std.specs.Prelude.{◌≡◌, ◌+◌, ℕ, IfOk, true, false};
-ghost use Rattle.ur_grammar.specs.Places.{Moves, IfRefused, Refuses};
+ghost use Rattle.ur_parse_rules.specs.Places.{Moves, IfRefused, Refuses};
 ghost use Rattle.ur_parse_rules.specs.ExpParts.{exp};
 ghost use Rattle.ur_parse_rules.specs.Parts.{of_exp};
 ghost use Rattle.ur_parse_rules.specs.Language.{language};
@@ -9,8 +9,8 @@ ghost use Rattle.ur_parse_exp_parts.specs.Bindings.{Binds, BindsOne, BindsNone};
 use crate::word::expect_word_of;
 use std::alloc::Global;
 use ur_base::Stop;
-use ur_grammar::{expect, sees};
 use ur_lex::{Symbol, TokenKind, Tokens};
+use ur_parse_rules::{expect, sees};
 use ur_syntax::Binder;
 
 /// Whether `_`, or a variable with `<-` behind it, stands at a place.

@@ -1,6 +1,6 @@
 //! Words in capitals, and `[]`, with the names of fields behind them.
 ghost use Rattle.std.specs.Prelude.{◌≡◌, ℕ, IfOk, ◌+◌};
-ghost use Rattle.ur_grammar.specs.Places.{Moves, Refuses, IfRefused};
+ghost use Rattle.ur_parse_rules.specs.Places.{Moves, Refuses, IfRefused};
 ghost use Rattle.ur_parse_rules.specs.ExpParts.{capital_rest, dots};
 ghost use Rattle.ur_parse_rules.specs.Parts.{of_exp};
 ghost use Rattle.ur_parse_rules.specs.Language.{language};
@@ -10,8 +10,8 @@ use crate::dots::read_dots;
 use crate::form::{constructor_of, member_constructor_of, member_of, nil_of};
 use std::alloc::Global;
 use ur_base::{Boxed, Stop, Text};
-use ur_grammar::{Parsed, expect_name, sees, span};
 use ur_lex::{Symbol, TokenKind, Tokens};
+use ur_parse_rules::{Parsed, expect_name, sees, span};
 use ur_syntax::Exp;
 
 /// The expression that a word in capitals begins, which stands at a place: a constructor of a datatype, or what a dot

@@ -1,6 +1,6 @@
 //! Names of fields behind an expression.
 ghost use Rattle.std.specs.Prelude.{◌≡◌, ℕ, IfOk};
-ghost use Rattle.ur_grammar.specs.Places.{Moves, Refuses, IfRefused};
+ghost use Rattle.ur_parse_rules.specs.Places.{Moves, Refuses, IfRefused};
 ghost use Rattle.ur_parse_rules.specs.ExpParts.{dots};
 ghost use Rattle.ur_parse_rules.specs.Parts.{of_exp};
 ghost use Rattle.ur_parse_rules.specs.Language.{language};
@@ -9,9 +9,9 @@ ghost use Rattle.ur_parse_exp_parts.specs.Behind.{DotsRead};
 use crate::form::project;
 use std::alloc::Global;
 use ur_base::{Boxed, Stop};
-use ur_grammar::{Parsed, sees, span};
 use ur_lex::{Symbol, TokenKind, Tokens};
 use ur_parse_con::expect_field_name;
+use ur_parse_rules::{Parsed, sees, span};
 use ur_syntax::Exp;
 
 /// An expression that begins at a place, with the names of fields behind it.

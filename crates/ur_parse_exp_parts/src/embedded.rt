@@ -1,14 +1,14 @@
 //! Forms over the name of a declaration, and XML with the code of its antiquotes.
 ghost use Rattle.std.specs.Prelude.{◌≡◌, ◌++◌, ◌∷◌, [], IfOk};
-ghost use Rattle.ur_grammar.specs.Places.{IfRefused};
+ghost use Rattle.ur_parse_rules.specs.Places.{IfRefused};
 ghost use Rattle.ur_parse_rules.specs.Expressions.{at};
 ghost use Rattle.ur_syntax.specs.declared.exp.ExpForm.TheVariants as form;
 
 use crate::form::made;
 use std::alloc::Global;
 use ur_base::{Boxed, List, Span, Stop};
-use ur_grammar::{Parsed, pushed};
 use ur_parse_con::taller;
+use ur_parse_rules::{Parsed, pushed};
 use ur_syntax::{DeclName, Exp, ExpForm, Xml};
 
 /// `nextval name`

@@ -1,6 +1,6 @@
 //! Expressions with what they take behind them, and what is made of these.
 ghost use Rattle.std.specs.Prelude.{◌≡◌, IfOk, true};
-ghost use Rattle.ur_grammar.specs.Places.{IfRefused};
+ghost use Rattle.ur_parse_rules.specs.Places.{IfRefused};
 ghost use Rattle.ur_parse_rules.specs.Expressions.{at, closed, ends_as, takes_as};
 ghost use Rattle.ur_syntax.specs.declared.exp.ExpForm.TheVariants as form;
 ghost use Rattle.ur_parse_exp_parts.specs.Lines.{ended};
@@ -8,8 +8,8 @@ ghost use Rattle.ur_parse_exp_parts.specs.Lines.{ended};
 use crate::form::made;
 use std::alloc::Global;
 use ur_base::{Boxed, List, Span, Stop};
-use ur_grammar::Parsed;
 use ur_parse_con::taller;
+use ur_parse_rules::Parsed;
 use ur_syntax::{Binder, Branch, Con, Exp, ExpForm, Field, LambdaParam, LetVal};
 
 /// An expression, with whether it takes each `;` behind it, and each `|`: one that ends with a lambda or a `case` takes

@@ -1,14 +1,14 @@
 //! The forms of expressions, made of their parts. Expressions stay in boxes: so readers hold them at little cost.
 ghost use Rattle.std.specs.Prelude.{◌≡◌, IfOk};
-ghost use Rattle.ur_grammar.specs.Places.{IfRefused};
+ghost use Rattle.ur_parse_rules.specs.Places.{IfRefused};
 ghost use Rattle.ur_parse_rules.specs.Expressions.{at};
 ghost use Rattle.ur_syntax.specs.declared.exp.ExpForm.TheVariants as form;
 ghost use Rattle.ur_parse_exp_parts.specs.Forms.{one_form, two_form};
 
 use std::alloc::Global;
 use ur_base::{Boxed, Span, Stop, Text};
-use ur_grammar::{Parsed, above, boxed};
 use ur_parse_con::taller;
+use ur_parse_rules::{Parsed, above, boxed};
 use ur_syntax::{Binary, Con, Exp, ExpForm, FieldName, Removed};
 
 /// A form with one expression in it.

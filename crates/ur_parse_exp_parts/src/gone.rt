@@ -2,7 +2,7 @@
 ghost use Rattle.std.specs.Prelude.{◌≡◌, ◌+◌, ℕ, IfOk, drop, true, false};
 ghost use Rattle.ur_lex.specs.declared.token.Symbol.TheVariants as symbol;
 ghost use Rattle.ur_lex.specs.declared.token.TokenKind.TheVariants as token;
-ghost use Rattle.ur_grammar.specs.Places.{Moves, IsAt, OfKind, Refuses, IfRefused, starts};
+ghost use Rattle.ur_parse_rules.specs.Places.{Moves, IsAt, OfKind, Refuses, IfRefused, starts};
 ghost use Rattle.ur_parse_rules.specs.Classes.{member};
 ghost use Rattle.ur_parse_rules.specs.Ends.{sum_more};
 ghost use Rattle.ur_parse_rules.specs.ExpParts as e;
@@ -14,9 +14,9 @@ use crate::begin::sees_argument;
 use crate::form::removed;
 use std::alloc::Global;
 use ur_base::{Boxed, Stop};
-use ur_grammar::{Parsed, sees, span, unexpected};
 use ur_lex::{Symbol, TokenKind, Tokens};
-use ur_parse_parts::{Level, read_removed, sign_at};
+use ur_parse_con::{Level, read_removed, sign_at};
+use ur_parse_rules::{Parsed, sees, span, unexpected};
 use ur_syntax::Exp;
 
 /// Whether what stands in a sum goes on at a place.

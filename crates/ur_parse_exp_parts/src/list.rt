@@ -2,7 +2,7 @@
 ghost use Rattle.std.specs.Prelude.{◌≡◌, IfOk};
 ghost use Rattle.ur_syntax.specs.declared.exp.ExpForm.TheVariants as form;
 ghost use Rattle.ur_syntax.specs.declared.exp.Binary.TheVariants as op;
-ghost use Rattle.ur_grammar.specs.Places.{IfRefused};
+ghost use Rattle.ur_parse_rules.specs.Places.{IfRefused};
 ghost use Rattle.ur_parse_rules.specs.Forms.{up_to};
 ghost use Rattle.ur_parse_rules.specs.Expressions.{at};
 ghost use Rattle.ur_parse_exp_parts.specs.Lists.{listed};
@@ -10,7 +10,7 @@ ghost use Rattle.ur_parse_exp_parts.specs.Lists.{listed};
 use crate::form::{Double, with_two};
 use std::alloc::Global;
 use ur_base::{Boxed, List, Span, Stop};
-use ur_grammar::Parsed;
+use ur_parse_rules::Parsed;
 use ur_syntax::{Binary, Exp};
 
 /// An expression with the span of its tokens, its parentheses among them.

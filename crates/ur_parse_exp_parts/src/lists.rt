@@ -1,12 +1,12 @@
 //! Lists of fields, values and branches with one more at the end.
 ghost use Rattle.std.specs.Prelude.{◌≡◌, ◌++◌, ◌∷◌, [], IfOk};
-ghost use Rattle.ur_grammar.specs.Places.{IfRefused};
+ghost use Rattle.ur_parse_rules.specs.Places.{IfRefused};
 ghost use Rattle.ur_parse_exp_parts.specs.Lists.{field, let_val, branch};
 
 use crate::ended::{Line, inner};
 use ur_base::{List, Span, Stop, Text};
-use ur_grammar::{Parsed, pushed};
 use ur_parse_con::taller;
+use ur_parse_rules::{Parsed, pushed};
 use ur_syntax::{Branch, Con, Field, FieldName, LetVal, Pat};
 
 /// `name = value` behind other fields

@@ -1,6 +1,6 @@
 //! `fn` and the parameters of a lambda, up to `=>`.
 ghost use Rattle.std.specs.Prelude.{◌≡◌, IfOk, ◌∷◌, [], drop};
-ghost use Rattle.ur_grammar.specs.Places.{Moves, Reads, Refuses, IfRefused, starts};
+ghost use Rattle.ur_parse_rules.specs.Places.{Moves, Reads, Refuses, IfRefused, starts};
 ghost use Rattle.ur_parse_rules.specs.Classes.{member};
 ghost use Rattle.ur_parse_rules.specs.ExpParts.{lambda, lambda_param};
 ghost use Rattle.ur_parse_rules.specs.Parts.{of_exp};
@@ -9,11 +9,9 @@ ghost use Rattle.ur_parse_exp_parts.specs.Heads.{HeadRead, ParamsRead, ParamsRef
 
 use std::alloc::Global;
 use ur_base::{List, Stop};
-use ur_grammar::{Parsed, expect, pushed, sees};
 use ur_lex::{Keyword, Symbol, TokenKind, Tokens};
-use ur_parse_con::{read_con_param, taller};
-use ur_parse_parts::read_param;
-use ur_parse_pat::{read_binder, sees_binder};
+use ur_parse_con::{read_binder, read_con_param, read_param, sees_binder, taller};
+use ur_parse_rules::{Parsed, expect, pushed, sees};
 use ur_syntax::LambdaParam;
 
 /// A parameter of a lambda.

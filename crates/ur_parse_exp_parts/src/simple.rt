@@ -1,6 +1,6 @@
 //! Ints, strings and variables.
 ghost use Rattle.std.specs.Prelude.{◌≡◌, ℕ, IfOk};
-ghost use Rattle.ur_grammar.specs.Places.{Moves, Reads, Refuses, IfRefused};
+ghost use Rattle.ur_parse_rules.specs.Places.{Moves, Reads, Refuses, IfRefused};
 ghost use Rattle.ur_parse_rules.specs.ExpParts.{base};
 ghost use Rattle.ur_parse_rules.specs.Parts.{of_exp};
 ghost use Rattle.ur_parse_rules.specs.Language.{language};
@@ -10,8 +10,8 @@ use crate::form::{int_of, string_of, variable_of};
 use crate::word::expect_word_of;
 use std::alloc::Global;
 use ur_base::{Boxed, Stop};
-use ur_grammar::{Parsed, expect_name, number_at, sees, span};
 use ur_lex::{TokenKind, Tokens};
+use ur_parse_rules::{Parsed, expect_name, number_at, sees, span};
 use ur_syntax::Exp;
 
 /// An int, a string or a variable, where no other atom begins.

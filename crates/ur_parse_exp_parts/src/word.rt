@@ -1,14 +1,13 @@
 //! Words that begin a form, and names that are none of them.
-ghost use Rattle.std.specs.Prelude.{◌≡◌, ◌+◌, ◌||◌, IsTrue, IfOk, false};
-ghost use Rattle.ur_lex.specs.Spelling.{is_among};
-ghost use Rattle.ur_grammar.specs.Places.{IsAt, IsName, Other, Passing, Unexpected, IfRefused};
+ghost use Rattle.std.specs.Prelude.{◌≡◌, ◌+◌, IsTrue, IfOk, false};
+ghost use Rattle.ur_parse_rules.specs.Places.{IsAt, IsName, Other, Passing, Unexpected, IfRefused};
 ghost use Rattle.ur_parse_rules.specs.Words as words;
-ghost use Rattle.ur_parse_exp_parts.specs.Words.{plain_words, state_words, sql_words, PlainAt, StateAt, SqlAt, FormAt};
+ghost use Rattle.ur_parse_exp_parts.specs.Words.{PlainAt, StateAt, SqlAt, FormAt};
 
 use std::alloc::Global;
 use ur_base::{Stop, Text};
-use ur_grammar::{bytes_equal, sees, sees_word, text, unexpected};
 use ur_lex::{TokenKind, Tokens};
+use ur_parse_rules::{is_among, sees, sees_word, text, unexpected};
 
 /// A word that a form begins with.
 #[derive(Clone, Copy, Debug, PartialEq, Eq)]
@@ -29,50 +28,29 @@ pub enum FormWord {
     QueryX,
 }
 
-fn is_plain_word(word: &[u8]) -> bool
-    ensures { result ≡ is_among plain_words word.now }
-{
-    bytes_equal(word, b"return")
-        || bytes_equal(word, b"show")
-        || bytes_equal(word, b"not")
-        || bytes_equal(word, b"error")
-        || bytes_equal(word, b"Some")
-}
-
-fn is_state_word(word: &[u8]) -> bool
-    ensures { result ≡ is_among state_words word.now }
-{
-    bytes_equal(word, b"nextval")
-        || bytes_equal(word, b"getCookie")
-        || bytes_equal(word, b"setCookie")
-}
-
-fn is_sql_word(word: &[u8]) -> bool
-    ensures { result ≡ is_among sql_words word.now }
-{
-    bytes_equal(word, b"dml")
-        || bytes_equal(word, b"queryL")
-        || bytes_equal(word, b"oneRow")
-        || bytes_equal(word, b"oneOrNoRows")
-        || bytes_equal(word, b"queryX")
-        || bytes_equal(word, b"fold")
-}
-
-fn any_of(plain: bool, state: bool, sql: bool) -> bool
-    ensures { result ≡ (plain || (state || sql)) }
-{
-    plain || state || sql
-}
+/// The words that a form begins with.
+const FORM_WORDS: [&[u8]; 14] = [
+    b"return",
+    b"show",
+    b"not",
+    b"error",
+    b"Some",
+    b"nextval",
+    b"getCookie",
+    b"setCookie",
+    b"dml",
+    b"queryL",
+    b"oneRow",
+    b"oneOrNoRows",
+    b"queryX",
+    b"fold",
+];
 
 /// Whether a word is a name, which the words of forms are not at the head of an application.
 pub fn is_name(first: bool, word: &[u8]) -> bool
     ensures { result ≡ words.is_name first word.now }
 {
-    if first {
-        !any_of(is_plain_word(word), is_state_word(word), is_sql_word(word))
-    } else {
-        true
-    }
+    !first || !is_among(&FORM_WORDS, word)
 }
 
 /// Whether a word of this kind stands at a place that is a name there.

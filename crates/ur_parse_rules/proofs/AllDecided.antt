@@ -1,6 +1,6 @@
 -- Each nonterminal of the language is read in one way.
-use Rattle.ur_grammar.specs.Rules.{OneTree}
-use Rattle.ur_grammar.proofs.Once.{Decided, one_tree}
+use Rattle.ur_parse_rules.specs.Rules.{OneTree}
+use Rattle.ur_parse_rules.proofs.Once.{Decided, one_tree}
 use Rattle.ur_parse_rules.specs.Parts.{Part, of_con, of_exp, of_sql, of_xml, of_decl, of_quote, of_code}
 use Rattle.ur_parse_rules.specs.Language.{language}
 use Rattle.ur_parse_rules.proofs.Choice.{choice}

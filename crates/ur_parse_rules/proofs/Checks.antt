@@ -7,11 +7,11 @@ use Rattle.ur_lex.specs.declared.token.TokenKind.{TokenKind}
 use Rattle.ur_lex.specs.declared.token.TokenKind.TheVariants as token_kind
 use Rattle.ur_lex.specs.declared.token.Lexeme.{Lexeme}
 use Rattle.ur_lex.specs.Spelling.{Text}
-use Rattle.ur_grammar.specs.KindNumbers.{kind_number, is_one}
-use Rattle.ur_grammar.specs.Rules.{Slot, mark, word, name, number, among, one, Values, Rule, Grammar, Sym, part, filled, AnyOf, Builds, Spells, Stops}
-use Rattle.ur_grammar.proofs.Inversions.{height, height-subst, nothing-out, token-out, no_plain, no_spelled, no_named, no_counted, no_token_of, part-out, produced-out}
-use Rattle.ur_grammar.proofs.Once.{Fits, Ends, AfterEach, AllAfter, AllChosen, Decided}
-use Rattle.ur_grammar.proofs.Choices.{by_first, if_true, if_false}
+use Rattle.ur_parse_rules.specs.KindNumbers.{kind_number, is_one}
+use Rattle.ur_parse_rules.specs.Rules.{Slot, mark, word, name, number, among, one, Values, Rule, Grammar, Sym, part, filled, AnyOf, Builds, Spells, Stops}
+use Rattle.ur_parse_rules.proofs.Inversions.{height, height-subst, nothing-out, token-out, no_plain, no_spelled, no_named, no_counted, no_token_of, part-out, produced-out}
+use Rattle.ur_parse_rules.proofs.Once.{Fits, Ends, AfterEach, AllAfter, AllChosen, Decided}
+use Rattle.ur_parse_rules.proofs.Choices.{by_first, if_true, if_false}
 use Rattle.std.proofs.lemmas.Slice.Eq.{bytes_eq-Decides}
 use Rattle.ur_parse_rules.specs.Classes.{Test, every, just, by, passes, Classes, member, all_of}
 use Rattle.ur_parse_rules.proofs.Tests.{false_true, and_left, and_right, and_true, is_not, or_true, or_first, or_second, apart, within, nor_both, inside, member_append, member_behind}

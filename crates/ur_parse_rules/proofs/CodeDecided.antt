@@ -1,6 +1,6 @@
 -- The code of antiquotes is read in one way.
 use Rattle.std.specs.Prelude.{refl}
-use Rattle.ur_grammar.proofs.Once.{Decided}
+use Rattle.ur_parse_rules.proofs.Once.{Decided}
 use Rattle.ur_parse_rules.specs.Quoted.{Quoting, expressions, raw}
 use Rattle.ur_parse_rules.specs.CodeParts.{CodePart, pieces, piece}
 use Rattle.ur_parse_rules.specs.Parts.{of_quote, of_code}

@@ -1,9 +1,9 @@
 -- Kinds and constructors are read in one way.
 use Rattle.std.specs.Prelude.{Bool, true, false, refl}
-use Rattle.ur_grammar.proofs.Once.{Decided}
+use Rattle.ur_parse_rules.proofs.Once.{Decided}
 use Rattle.ur_parse_rules.specs.ConParts.{ConPart, kind, kind_atom, kind_tail, con, arrow, arrow_tail, concat, concat_tail, app, args, arg, atom, field_name, row, row_field, row_value, row_tail, fields, record_field, fields_tail, con_param}
-use Rattle.ur_parse_rules.specs.declared.place.ConPlace.{ConPlace}
-use Rattle.ur_parse_rules.specs.declared.place.ConPlace.TheVariants as places
+use Rattle.ur_parse_rules.specs.declared.parse_rules_place.ConPlace.{ConPlace}
+use Rattle.ur_parse_rules.specs.declared.parse_rules_place.ConPlace.TheVariants as places
 use Rattle.ur_parse_rules.specs.Parts.{of_con}
 use Rattle.ur_parse_rules.specs.Language.{language}
 use Rattle.ur_parse_rules.proofs.Table.{Told, by_table}

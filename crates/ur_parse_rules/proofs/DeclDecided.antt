@@ -1,6 +1,6 @@
 -- Declarations, modules and signatures are read in one way.
 use Rattle.std.specs.Prelude.{refl}
-use Rattle.ur_grammar.proofs.Once.{Decided}
+use Rattle.ur_parse_rules.proofs.Once.{Decided}
 use Rattle.ur_parse_rules.specs.DeclParts.{DeclPart, whole, decls, decl, variant, variant_con, more_variants, keys, key_column, key_columns, more_columns, after_comma, columns_end, more_constraints, constraint_head, constraint_name, definition, more_definitions, con_params, params, signature, val_decls, val_decl}
 use Rattle.ur_parse_rules.specs.Parts.{of_decl}
 use Rattle.ur_parse_rules.specs.Language.{language}

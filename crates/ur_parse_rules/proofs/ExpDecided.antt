@@ -1,6 +1,6 @@
 -- Expressions and patterns are read in one way.
 use Rattle.std.specs.Prelude.{Bool, true, false, refl}
-use Rattle.ur_grammar.proofs.Once.{Decided}
+use Rattle.ur_parse_rules.proofs.Once.{Decided}
 use Rattle.ur_parse_rules.specs.ExpParts.{Level, disjunction, conjunction, append, sum, product, ExpPart, exp, rest, line, lambda, bar, branches, more_branches, left, operand, left_tail, left_step, comparison, comparison_tail, cons, cons_tail, negative, app, args, arg, bracketed, head, post, base, capital_rest, member, nil_end, dot, dots, paren_rest, field, fields, fields_tail, let_val, let_vals, removed, binder, param, param_rest, lambda_param, lambda_params, pat, pat_cons, pat_rest, pat_argument}
 use Rattle.ur_parse_rules.specs.Parts.{of_exp}
 use Rattle.ur_parse_rules.specs.Language.{language}

@@ -2,9 +2,9 @@
 use Rattle.std.specs.Prelude.{◌≡◌, ℕ, zero, suc, Bool, true, false, not, ◌&&◌, ◌||◌, ◌+◌, ◌<◌, List, [], ◌∷◌, ◌++◌, refl}
 use Rattle.std.proofs.Common.{sym, ◌∙◌, subst, inl, inr, arith, append_assoc}
 use Rattle.ur_lex.specs.declared.token.Lexeme.{Lexeme}
-use Rattle.ur_grammar.specs.Rules.{Slot, mark, word, name, number, among, one, Values, Rule, Grammar, Sym, part, filled, AnyOf, Builds, Spells}
-use Rattle.ur_grammar.specs.Places.{starts}
-use Rattle.ur_grammar.proofs.Inversions.{height, height-subst, nothing-out, token-out, no_plain, no_spelled, no_named, no_counted, no_token_of, part-out, produced-out}
+use Rattle.ur_parse_rules.specs.Rules.{Slot, mark, word, name, number, among, one, Values, Rule, Grammar, Sym, part, filled, AnyOf, Builds, Spells}
+use Rattle.ur_parse_rules.specs.Places.{starts}
+use Rattle.ur_parse_rules.proofs.Inversions.{height, height-subst, nothing-out, token-out, no_plain, no_spelled, no_named, no_counted, no_token_of, part-out, produced-out}
 use Rattle.ur_parse_rules.specs.Classes.{Classes, member}
 use Rattle.ur_parse_rules.proofs.Tests.{false_true, and_left, and_right, not_true, or_true, apart, within, nor_both, inside}
 use Rattle.ur_parse_rules.proofs.Checks.{firsts, nullable, implies, implied, firsts_fit, begun, part_begun, of_mark, of_word, of_name, of_number, of_among}

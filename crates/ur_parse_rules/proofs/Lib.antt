@@ -1,3 +1,10 @@
+pub mod Tokens
+pub mod Inversions
+pub mod Once
+pub mod Steps
+pub mod Numbers
+pub mod Choices
+pub mod LinesDecided
 pub mod Tests
 pub mod Checks
 pub mod Starts
@@ -7,7 +14,6 @@ pub mod Table
 pub mod Leads
 pub mod Choice
 pub mod Places
-pub mod Grouped
 pub mod Watches
 pub mod RawCode
 pub mod Special

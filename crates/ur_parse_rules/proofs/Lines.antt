@@ -8,10 +8,10 @@ use Rattle.ur_lex.specs.declared.token.TokenKind.{TokenKind}
 use Rattle.ur_lex.specs.declared.token.TokenKind.TheVariants as token
 use Rattle.ur_lex.specs.declared.token.Lexeme.{Lexeme}
 use Rattle.ur_lex.specs.Spelling.{Text}
-use Rattle.ur_grammar.specs.Rules.{Sym, part, Spells, Stops, AnyOf, Builds}
-use Rattle.ur_grammar.proofs.Inversions.{produced-out, part-out, nothing-out, token-out, no_plain, no_named}
-use Rattle.ur_grammar.proofs.Once.{Decided}
-use Rattle.ur_grammar.proofs.Choices.{if_false, stops_first, less, then_mark, then_any, then_end}
+use Rattle.ur_parse_rules.specs.Rules.{Sym, part, Spells, Stops, AnyOf, Builds}
+use Rattle.ur_parse_rules.proofs.Inversions.{produced-out, part-out, nothing-out, token-out, no_plain, no_named}
+use Rattle.ur_parse_rules.proofs.Once.{Decided}
+use Rattle.ur_parse_rules.proofs.Choices.{if_false, stops_first, less, then_mark, then_any, then_end}
 use Rattle.ur_syntax.specs.declared.exp.Branch.{Branch}
 use Rattle.ur_parse_rules.specs.Classes.{member}
 use Rattle.ur_parse_rules.specs.ExpParts.{exp, rest, line, lambda, bar, branches, more_branches}

@@ -7,13 +7,13 @@ use Rattle.ur_base.specs.Stopping.{Says}
 use Rattle.ur_lex.specs.declared.token.TokenKind.{TokenKind}
 use Rattle.ur_lex.specs.declared.token.Lexeme.{Lexeme}
 use Rattle.ur_lex.specs.Spelling.{Text}
-use Rattle.ur_grammar.specs.Rules.{Stops}
-use Rattle.ur_grammar.specs.KindNumbers.{kind_number, all_kinds}
-use Rattle.ur_grammar.specs.Places.{IsAt, IsName, Other, OfKind, Passing, Moves, only, span_of}
-use Rattle.ur_grammar.proofs.Inversions.{nothing-out}
-use Rattle.ur_grammar.proofs.Steps.{Failing, never_fits}
-use Rattle.ur_grammar.proofs.Choices.{other_stops}
-use Rattle.ur_grammar.proofs.Tokens.{content_at}
+use Rattle.ur_parse_rules.specs.Rules.{Stops}
+use Rattle.ur_parse_rules.specs.KindNumbers.{kind_number, all_kinds}
+use Rattle.ur_parse_rules.specs.Places.{IsAt, IsName, Other, OfKind, Passing, Moves, only, span_of}
+use Rattle.ur_parse_rules.proofs.Inversions.{nothing-out}
+use Rattle.ur_parse_rules.proofs.Steps.{Failing, never_fits}
+use Rattle.ur_parse_rules.proofs.Choices.{other_stops}
+use Rattle.ur_parse_rules.proofs.Tokens.{content_at}
 use Rattle.ur_parse_rules.specs.Classes.{Class, Classes, member, in_class, all_of}
 use Rattle.ur_parse_rules.specs.Language.{language}
 use Rattle.ur_parse_rules.specs.Forms.{up_to}

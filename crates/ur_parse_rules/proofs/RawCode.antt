@@ -4,8 +4,8 @@ use Rattle.std.proofs.Common.{sym, ◌∙◌, ap, subst, inl, inr, arith}
 use Rattle.std.proofs.lemmas.List.{append-nil}
 use Rattle.ur_lex.specs.declared.token.TokenKind.{TokenKind}
 use Rattle.ur_lex.specs.declared.token.Lexeme.{Lexeme}
-use Rattle.ur_grammar.specs.Rules.{Sym, part, token_of, Spells, AnyOf, Builds}
-use Rattle.ur_grammar.proofs.Inversions.{height, height-subst, nothing-out, token-out, no_token_of, part-out, produced-out}
+use Rattle.ur_parse_rules.specs.Rules.{Sym, part, token_of, Spells, AnyOf, Builds}
+use Rattle.ur_parse_rules.proofs.Inversions.{height, height-subst, nothing-out, token-out, no_token_of, part-out, produced-out}
 use Rattle.ur_parse_rules.specs.Quoted.{Quoting, expressions, raw, Code, Raw}
 use Rattle.ur_parse_rules.specs.CodeParts.{CodePart, pieces, piece}
 use Rattle.ur_parse_rules.specs.Parts.{of_quote, of_code}

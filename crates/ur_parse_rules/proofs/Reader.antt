@@ -6,9 +6,9 @@ use Rattle.ur_lex.specs.declared.token.TokenKind.{TokenKind}
 use Rattle.ur_lex.specs.declared.token.TokenKind.TheVariants as token_kind
 use Rattle.ur_lex.specs.declared.token.Lexeme.{Lexeme}
 use Rattle.ur_lex.specs.Spelling.{Text}
-use Rattle.ur_grammar.specs.KindNumbers.{same_kind, is_one}
-use Rattle.ur_grammar.specs.Places.{span_between}
-use Rattle.ur_grammar.specs.Rules.{Slot, mark, word, name, number, among, one, Values, Rule, no_span}
+use Rattle.ur_parse_rules.specs.KindNumbers.{same_kind, is_one}
+use Rattle.ur_parse_rules.specs.Places.{span_between}
+use Rattle.ur_parse_rules.specs.Rules.{Slot, mark, word, name, number, among, one, Values, Rule, no_span}
 use Rattle.ur_parse_rules.specs.Parts.{Part, Tree}
 use Rattle.ur_parse_rules.specs.Language.{rules, cost}
 use Rattle.ur_parse_rules.proofs.Choice.{choice}

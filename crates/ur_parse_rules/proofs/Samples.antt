@@ -21,7 +21,7 @@ use Rattle.ur_syntax.specs.declared.xml.XmlPart.{XmlPart}
 use Rattle.ur_syntax.specs.declared.xml.XmlForm.{XmlForm}
 use Rattle.ur_syntax.specs.declared.decl.Module.{Module}
 use Rattle.ur_syntax.specs.declared.decl.Signature.{Signature}
-use Rattle.ur_parse_rules.specs.declared.place.ConPlace.TheVariants as places
+use Rattle.ur_parse_rules.specs.declared.parse_rules_place.ConPlace.TheVariants as places
 use Rattle.ur_parse_rules.specs.ConParts as c
 use Rattle.ur_parse_rules.specs.ExpParts as e
 use Rattle.ur_parse_rules.specs.DeclParts as d

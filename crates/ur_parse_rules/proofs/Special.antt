@@ -4,11 +4,11 @@ use Rattle.std.proofs.Common.{sym, ◌∙◌, subst, inl, inr, append_assoc}
 use Rattle.ur_lex.specs.declared.token.Symbol.TheVariants as symbol
 use Rattle.ur_lex.specs.declared.token.TokenKind.TheVariants as token
 use Rattle.ur_lex.specs.declared.token.Lexeme.{Lexeme}
-use Rattle.ur_grammar.specs.Rules.{Sym, part, Spells, Stops, AnyOf, Builds}
-use Rattle.ur_grammar.specs.Places.{starts}
-use Rattle.ur_grammar.proofs.Inversions.{produced-out, part-out, nothing-out, token-out, no_plain, no_named, no_spelled}
-use Rattle.ur_grammar.proofs.Once.{Decided}
-use Rattle.ur_grammar.proofs.Choices.{if_true, if_false, stops_first}
+use Rattle.ur_parse_rules.specs.Rules.{Sym, part, Spells, Stops, AnyOf, Builds}
+use Rattle.ur_parse_rules.specs.Places.{starts}
+use Rattle.ur_parse_rules.proofs.Inversions.{produced-out, part-out, nothing-out, token-out, no_plain, no_named, no_spelled}
+use Rattle.ur_parse_rules.proofs.Once.{Decided}
+use Rattle.ur_parse_rules.proofs.Choices.{if_true, if_false, stops_first}
 use Rattle.ur_parse_rules.specs.Classes.{Classes, member, all_of}
 use Rattle.ur_parse_rules.specs.Quoted.{Quoting}
 use Rattle.ur_parse_rules.specs.ConParts as c

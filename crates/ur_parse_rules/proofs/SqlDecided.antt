@@ -1,6 +1,6 @@
 -- SQL is read in one way.
 use Rattle.std.specs.Prelude.{Bool, true, false, refl}
-use Rattle.ur_grammar.proofs.Once.{Decided}
+use Rattle.ur_parse_rules.proofs.Once.{Decided}
 use Rattle.ur_parse_rules.specs.SqlParts.{SqlLevel, disjunction, conjunction, sum, product, SqlPart, sexp, left, operand, left_tail, left_step, negation, comparison, comparison_tail, is_rest, negative, atom, column, qualifier, anti, name, query, selection, selected, more_selected, aggregate, item, alias, more_items, filter, group, more_columns, order, order_key, direction, more_keys, limit, offset, amount, change, columns_end, values_end, assignment, more_assignments}
 use Rattle.ur_parse_rules.specs.Quoted.{Quoting}
 use Rattle.ur_parse_rules.specs.Parts.{of_sql}

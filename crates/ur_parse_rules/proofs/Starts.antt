@@ -5,7 +5,7 @@ use Rattle.ur_lex.specs.declared.token.Symbol.TheVariants as symbol
 use Rattle.ur_lex.specs.declared.token.TokenKind.TheVariants as token
 use Rattle.ur_lex.specs.Spelling.{Text}
 use Rattle.ur_parse_rules.specs.Classes.{Classes, all_of, symbol_class, keyword_class, but_class}
-use Rattle.ur_grammar.specs.KindNumbers.{kind_number}
+use Rattle.ur_parse_rules.specs.KindNumbers.{kind_number}
 use Rattle.ur_parse_rules.specs.Words.{name_test}
 use Rattle.ur_parse_rules.specs.ConParts as c
 use Rattle.ur_parse_rules.specs.ExpParts as e

@@ -3,7 +3,7 @@ use Rattle.std.specs.Prelude.{◌≡◌, ℕ, true, List}
 use Rattle.ur_lex.specs.declared.token.TokenKind.{TokenKind}
 use Rattle.ur_lex.specs.declared.token.Lexeme.{Lexeme}
 use Rattle.ur_lex.specs.Spelling.{Text}
-use Rattle.ur_grammar.proofs.Once.{Decided}
+use Rattle.ur_parse_rules.proofs.Once.{Decided}
 use Rattle.ur_parse_rules.specs.Classes.{member}
 use Rattle.ur_parse_rules.specs.Parts.{Part, Tree}
 use Rattle.ur_parse_rules.specs.Ends.{more}

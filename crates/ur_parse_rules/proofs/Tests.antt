@@ -7,7 +7,7 @@ use Rattle.std.proofs.lemmas.Bool.{eqb-true, eq-eqb}
 use Rattle.std.proofs.lemmas.Slice.Eq.{bytes_eq-Decides}
 use Rattle.ur_lex.specs.declared.token.TokenKind.{TokenKind}
 use Rattle.ur_lex.specs.Spelling.{Text, is_among}
-use Rattle.ur_grammar.specs.KindNumbers.{kind_number}
+use Rattle.ur_parse_rules.specs.KindNumbers.{kind_number}
 use Rattle.ur_parse_rules.specs.Classes.{Test, every, just, but, by, passes, Class, Classes, in_class, member}
 
 -- ---- Bool

@@ -1,7 +1,7 @@
 -- What does not begin with a name and `::` or `<-`, with `[` and no `]`, or with a column alone.
 use Rattle.std.specs.Prelude.{◌≡◌, ℕ, Bool, true, false, not, List, [], ◌∷◌, ◌++◌, refl}
 use Rattle.ur_lex.specs.declared.token.Lexeme.{Lexeme}
-use Rattle.ur_grammar.specs.Rules.{part, Spells}
+use Rattle.ur_parse_rules.specs.Rules.{part, Spells}
 use Rattle.ur_parse_rules.specs.Classes.{Classes}
 use Rattle.ur_parse_rules.specs.Quoted.{Quoting}
 use Rattle.ur_parse_rules.specs.ConParts as c

@@ -1,6 +1,6 @@
 -- XML is read in one way.
 use Rattle.std.specs.Prelude.{refl}
-use Rattle.ur_grammar.proofs.Once.{Decided}
+use Rattle.ur_parse_rules.proofs.Once.{Decided}
 use Rattle.ur_parse_rules.specs.XmlParts.{XmlPart, literal, parts, one_part, element, element_end, tag, tag_field, tag_name, attrs, attr, attr_value}
 use Rattle.ur_parse_rules.specs.Quoted.{Quoting}
 use Rattle.ur_parse_rules.specs.Parts.{of_xml}

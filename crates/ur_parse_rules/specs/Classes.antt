@@ -6,7 +6,7 @@ use Rattle.ur_lex.specs.declared.token.Symbol.{Symbol}
 use Rattle.ur_lex.specs.declared.token.TokenKind.{TokenKind}
 use Rattle.ur_lex.specs.declared.token.TokenKind.TheVariants as token
 use Rattle.ur_lex.specs.Spelling.{Text, is_among}
-use Rattle.ur_grammar.specs.KindNumbers.{kind_number}
+use Rattle.ur_parse_rules.specs.KindNumbers.{kind_number}
 
 -- a test of a token's content
 pub data Test : Type 0 where

@@ -4,8 +4,8 @@ use Rattle.ur_lex.specs.declared.token.Symbol.{Symbol}
 use Rattle.ur_lex.specs.declared.token.Symbol.TheVariants as symbol
 use Rattle.ur_lex.specs.declared.token.TokenKind.TheVariants as token
 use Rattle.ur_lex.specs.declared.token.Lexeme.{Lexeme}
-use Rattle.ur_grammar.specs.Rules.{among, Rule}
-use Rattle.ur_grammar.specs.Places.{starts}
+use Rattle.ur_parse_rules.specs.Rules.{among, Rule}
+use Rattle.ur_parse_rules.specs.Places.{starts}
 use Rattle.ur_parse_rules.specs.Classes.{member}
 use Rattle.ur_parse_rules.specs.Quoted.{Quoting, expressions, raw, Code}
 use Rattle.ur_parse_rules.specs.ExpParts as e

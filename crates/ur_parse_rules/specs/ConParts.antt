@@ -1,6 +1,6 @@
 -- The nonterminals of kinds and constructors.
 use Rattle.std.specs.Prelude.{Bool}
-use Rattle.ur_parse_rules.specs.declared.place.ConPlace.{ConPlace}
+use Rattle.ur_parse_rules.specs.declared.parse_rules_place.ConPlace.{ConPlace}
 
 -- The flag is whether the words of a table's keys may stand behind or, at an argument, in its place. A row and the fields
 -- of a record are read with the bracket that closes them.

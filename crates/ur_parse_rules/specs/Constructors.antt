@@ -16,10 +16,10 @@ use Rattle.ur_syntax.specs.declared.con.CField.{CField, CField-F, out-CField}
 use Rattle.ur_syntax.specs.declared.con.CField.TheVariants as cfield
 use Rattle.ur_syntax.specs.declared.con.RecordField.{RecordField}
 use Rattle.ur_syntax.specs.declared.con.ConParam.TheVariants as con_params
-use Rattle.ur_parse_rules.specs.declared.place.ConPlace.{ConPlace}
-use Rattle.ur_parse_rules.specs.declared.place.ConPlace.TheVariants as places
-use Rattle.ur_grammar.specs.Rules.{name, Rule}
-use Rattle.ur_grammar.specs.Places.{any}
+use Rattle.ur_parse_rules.specs.declared.parse_rules_place.ConPlace.{ConPlace}
+use Rattle.ur_parse_rules.specs.declared.parse_rules_place.ConPlace.TheVariants as places
+use Rattle.ur_parse_rules.specs.Rules.{name, Rule}
+use Rattle.ur_parse_rules.specs.Places.{any}
 use Rattle.ur_parse_rules.specs.Words.{is_field, is_free}
 use Rattle.ur_parse_rules.specs.ConParts.{ConPart, kind, kind_atom, kind_tail, con, arrow, arrow_tail, concat, concat_tail, app, args, arg, atom, field_name, row, row_field, row_value, row_tail, fields, record_field, fields_tail, con_param}
 use Rattle.ur_parse_rules.specs.Parts.{Tree, ConTree, Arg}

@@ -9,9 +9,9 @@ use Rattle.ur_syntax.specs.declared.decl.Decl.{Decl}
 use Rattle.ur_syntax.specs.declared.decl.DeclForm.{DeclForm}
 use Rattle.ur_syntax.specs.declared.decl.DeclForm.TheVariants as form
 use Rattle.ur_syntax.specs.declared.decl.Constraint.{Constraint}
-use Rattle.ur_parse_rules.specs.declared.place.ConPlace.TheVariants as places
-use Rattle.ur_grammar.specs.Rules.{name, Rule}
-use Rattle.ur_grammar.specs.Places.{any}
+use Rattle.ur_parse_rules.specs.declared.parse_rules_place.ConPlace.TheVariants as places
+use Rattle.ur_parse_rules.specs.Rules.{name, Rule}
+use Rattle.ur_parse_rules.specs.Places.{any}
 use Rattle.ur_parse_rules.specs.Words.{is_field}
 use Rattle.ur_parse_rules.specs.ConParts as c
 use Rattle.ur_parse_rules.specs.ExpParts as e

@@ -9,7 +9,7 @@ use Rattle.ur_lex.specs.declared.token.TokenKind.TheVariants as token
 use Rattle.ur_lex.specs.Spelling.{Text}
 use Rattle.ur_parse_rules.specs.Classes.{Class, Classes, member, all_of, symbol_class, keyword_class, word_class}
 use Rattle.ur_parse_rules.specs.Words.{free_test}
-use Rattle.ur_grammar.specs.KindNumbers.{kind_number}
+use Rattle.ur_parse_rules.specs.KindNumbers.{kind_number}
 use Rattle.ur_parse_rules.specs.ConParts as c
 use Rattle.ur_parse_rules.specs.ExpParts as e
 use Rattle.ur_parse_rules.specs.SqlParts as s

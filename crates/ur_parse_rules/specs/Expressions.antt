@@ -16,9 +16,9 @@ use Rattle.ur_syntax.specs.declared.exp.Exp.{Exp}
 use Rattle.ur_syntax.specs.declared.exp.ExpForm.{ExpForm}
 use Rattle.ur_syntax.specs.declared.exp.ExpForm.TheVariants as form
 use Rattle.ur_syntax.specs.declared.exp.Branch.{Branch}
-use Rattle.ur_parse_rules.specs.declared.place.ConPlace.TheVariants as places
-use Rattle.ur_grammar.specs.Rules.{name, number, Rule}
-use Rattle.ur_grammar.specs.Places.{any}
+use Rattle.ur_parse_rules.specs.declared.parse_rules_place.ConPlace.TheVariants as places
+use Rattle.ur_parse_rules.specs.Rules.{name, number, Rule}
+use Rattle.ur_parse_rules.specs.Places.{any}
 use Rattle.ur_parse_rules.specs.Words.{is_field, is_name}
 use Rattle.ur_parse_rules.specs.ConParts as c
 use Rattle.ur_parse_rules.specs.Quoted.{expressions}

@@ -5,8 +5,8 @@ use Rattle.ur_lex.specs.declared.token.Keyword.{Keyword}
 use Rattle.ur_lex.specs.declared.token.Symbol.{Symbol}
 use Rattle.ur_lex.specs.declared.token.TokenKind.TheVariants as token
 use Rattle.ur_lex.specs.Spelling.{Text}
-use Rattle.ur_grammar.specs.Rules.{Slot, mark, word, one, Values, Rule}
-use Rattle.ur_grammar.specs.Places.{always}
+use Rattle.ur_parse_rules.specs.Rules.{Slot, mark, word, one, Values, Rule}
+use Rattle.ur_parse_rules.specs.Places.{always}
 use Rattle.ur_parse_rules.specs.ConParts.{ConPart}
 use Rattle.ur_parse_rules.specs.ExpParts.{ExpPart}
 use Rattle.ur_parse_rules.specs.SqlParts.{SqlPart}

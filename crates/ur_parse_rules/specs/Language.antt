@@ -3,7 +3,7 @@ use Rattle.std.specs.Prelude.{ℕ, List, [], ◌∷◌}
 use Rattle.ur_lex.specs.declared.token.Lexeme.{Lexeme}
 use Rattle.ur_syntax.specs.declared.decl.Module.{Module}
 use Rattle.ur_syntax.specs.declared.decl.Signature.{Signature}
-use Rattle.ur_grammar.specs.Rules.{Rule, Grammar, part, Spells}
+use Rattle.ur_parse_rules.specs.Rules.{Rule, Grammar, part, Spells}
 use Rattle.ur_parse_rules.specs.DeclParts as d
 use Rattle.ur_parse_rules.specs.Parts.{Part, of_con, of_exp, of_sql, of_xml, of_decl, of_quote, of_code, Tree}
 use Rattle.ur_parse_rules.specs.Constructors.{con_rules, con_cost}

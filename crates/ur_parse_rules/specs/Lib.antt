@@ -1,6 +1,10 @@
+pub mod KindNumbers
+pub mod Rules
+pub mod Places
+pub mod Lines
+pub mod Numbers
 pub mod Classes
 pub mod Words
-pub mod WordGroups
 pub mod Quoted
 pub mod ConParts
 pub mod ExpParts

@@ -13,8 +13,8 @@ use Rattle.ur_syntax.specs.declared.xml.TagField.TheVariants as tag_fields
 use Rattle.ur_syntax.specs.declared.xml.Attr.{Attr}
 use Rattle.ur_syntax.specs.declared.xml.AttrValue.{AttrValue}
 use Rattle.ur_syntax.specs.declared.xml.AttrValue.TheVariants as attr_values
-use Rattle.ur_grammar.specs.Rules.{name, Rule}
-use Rattle.ur_grammar.specs.Places.{any}
+use Rattle.ur_parse_rules.specs.Rules.{name, Rule}
+use Rattle.ur_parse_rules.specs.Places.{any}
 use Rattle.ur_parse_rules.specs.Words.{is_field}
 use Rattle.ur_parse_rules.specs.Quoted.{Quoting, Quoted, plain, antiquote, attribute, mapped, both, cons, deeper}
 use Rattle.ur_parse_rules.specs.SqlParts as s

@@ -15,9 +15,9 @@ use Rattle.ur_syntax.specs.declared.exp.Argument.TheVariants as arguments
 use Rattle.ur_syntax.specs.declared.exp.Pat.{Pat}
 use Rattle.ur_syntax.specs.declared.exp.PatForm.{PatForm}
 use Rattle.ur_syntax.specs.declared.exp.PatForm.TheVariants as form
-use Rattle.ur_parse_rules.specs.declared.place.ConPlace.TheVariants as places
-use Rattle.ur_grammar.specs.Rules.{name, number, Rule}
-use Rattle.ur_grammar.specs.Places.{any}
+use Rattle.ur_parse_rules.specs.declared.parse_rules_place.ConPlace.TheVariants as places
+use Rattle.ur_parse_rules.specs.Rules.{name, number, Rule}
+use Rattle.ur_parse_rules.specs.Places.{any}
 use Rattle.ur_parse_rules.specs.Words.{is_constructor}
 use Rattle.ur_parse_rules.specs.ConParts as c
 use Rattle.ur_parse_rules.specs.ExpParts as e

@@ -10,8 +10,8 @@ use Rattle.ur_syntax.specs.declared.sql.SqlForm.{SqlForm}
 use Rattle.ur_syntax.specs.declared.sql.SqlForm.TheVariants as form
 use Rattle.ur_syntax.specs.declared.sql.SqlBinary.{SqlBinary}
 use Rattle.ur_syntax.specs.declared.sql.SqlBinary.TheVariants as op
-use Rattle.ur_grammar.specs.Rules.{name, number, Rule}
-use Rattle.ur_grammar.specs.Places.{any}
+use Rattle.ur_parse_rules.specs.Rules.{name, number, Rule}
+use Rattle.ur_parse_rules.specs.Places.{any}
 use Rattle.ur_parse_rules.specs.Words.{is_field}
 use Rattle.ur_parse_rules.specs.Quoted.{Quoting, Code, Quoted, plain, antiquote, mapped, both, deeper}
 use Rattle.ur_parse_rules.specs.SqlParts.{SqlLevel, disjunction, conjunction, sum, product, sexp, left, operand, left_tail, left_step, negation, comparison, comparison_tail, is_rest, negative, atom, column, qualifier, anti}

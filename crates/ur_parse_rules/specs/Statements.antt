@@ -22,8 +22,8 @@ use Rattle.ur_syntax.specs.declared.sql.Direction.TheVariants as directions
 use Rattle.ur_syntax.specs.declared.sql.Limit.{Limit}
 use Rattle.ur_syntax.specs.declared.sql.Limit.TheVariants as limits
 use Rattle.ur_syntax.specs.declared.sql.Assignment.{Assignment}
-use Rattle.ur_grammar.specs.Rules.{name as named, number, Rule}
-use Rattle.ur_grammar.specs.Places.{any}
+use Rattle.ur_parse_rules.specs.Rules.{name as named, number, Rule}
+use Rattle.ur_parse_rules.specs.Places.{any}
 use Rattle.ur_parse_rules.specs.Words.{is_field}
 use Rattle.ur_parse_rules.specs.Quoted.{Quoting, Code, Quoted, plain, antiquote, mapped, both, and_then, cons, some}
 use Rattle.ur_parse_rules.specs.SqlParts.{SqlPart, sexp, left, operand, left_tail, left_step, negation, comparison, comparison_tail, is_rest, negative, atom, column, qualifier, anti, name, query, selection, selected, more_selected, aggregate, item, alias, more_items, filter, group, more_columns, order, order_key, direction, more_keys, limit, offset, amount, change, columns_end, values_end, assignment, more_assignments}

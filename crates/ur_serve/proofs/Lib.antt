@@ -1,5 +1,9 @@
+pub mod Arriving
+pub mod Fronts
+pub mod Rounds
+pub mod Taking
 pub mod Replying
 pub mod Requests
 pub mod Starting
 pub mod Turns
-pub mod Sessions
+pub mod ServeSessions

@@ -7,31 +7,31 @@ use Rattle.ur_values.specs.declared.value.Value.{Value}
 use Rattle.ur_values.specs.declared.value.Call.{Call}
 use Rattle.ur_values.specs.Event.{Event}
 use Rattle.ur_values.specs.Store.{Store}
-use Rattle.ur_keeper.specs.Tables.{Tables, Kept, Keeps, NumbersUpTo, store_of}
+use Rattle.ur_keeper.specs.Tables.{Tables, KeptSchema, Keeps, NumbersUpTo, store_of}
 use Rattle.ur_terms.specs.State.{State, Outcome, Done, Error, Spent}
-use Rattle.ur_frames.specs.Plays.{held as state_held}
+use Rattle.ur_machine_frames.specs.Plays.{held as state_held}
 use Rattle.ur_http.specs.declared.request.Method.{Method}
 use Rattle.ur_http.specs.declared.request.Method.TheVariants.{Get, Head, Post, Other}
 use Rattle.ur_http.specs.declared.request.HttpRequest.{HttpRequest}
 use Rattle.ur_http.specs.Answers.{status_answer}
 use Rattle.ur_code.specs.declared.code.Code.{Code}
 use Rattle.ur_code.specs.Meaning.{does_code, outcome}
-use Rattle.ur_patterns.specs.declared.patterns.Patterns.{Patterns}
+use Rattle.ur_conditions.specs.declared.patterns.Patterns.{Patterns}
 use Rattle.ur_cache.specs.declared.cache.Settle.TheVariants.{Rollback}
 use Rattle.ur_cache.specs.Entries.{Cached, settled}
 use Rattle.ur_cache.specs.Cached.{after_events}
 use Rattle.ur_machine.specs.declared.machine.Machine.{Machine}
 use Rattle.ur_machine.specs.Cookies.{carried}
 use Rattle.ur_machine.specs.Left.{Starts, left}
-use Rattle.ur_answers.specs.Answers.{AreSavedAnswers, AreCurrentAnswers, AreEntriesOf, AreAnswersOver, Follows, sites_of, scanned}
-use Rattle.ur_answers.proofs.Kept.{kept_at_begin}
-use Rattle.ur_turns.specs.declared.turn.Turn.{Turn}
-use Rattle.ur_turns.specs.declared.turn.Turn.TheVariants as turn
-use Rattle.ur_turns.specs.Ready.{AreReady, RaisedBy}
-use Rattle.ur_turns.specs.Turning.{IsKeeperUndone, failed}
-use Rattle.ur_turns.proofs.Told.{where_told, told_all, numbers_more, raised_more, raised_none}
-use Rattle.ur_sessions.specs.declared.responder.Reply.{Reply}
-use Rattle.ur_sessions.specs.declared.responder.Reply.TheVariants as reply
+use Rattle.ur_machine.specs.Answers.{AreSavedAnswers, AreCurrentAnswers, AreEntriesOf, AreAnswersOver, Follows, sites_of, scanned}
+use Rattle.ur_machine.proofs.Kept.{kept_at_begin}
+use Rattle.ur_machine.specs.declared.turn.Turn.{Turn}
+use Rattle.ur_machine.specs.declared.turn.Turn.TheVariants as turn
+use Rattle.ur_machine.specs.Ready.{AreReady, RaisedBy}
+use Rattle.ur_machine.specs.Turning.{IsKeeperUndone, failed}
+use Rattle.ur_machine.proofs.Told.{where_told, told_all, numbers_more, raised_more, raised_none}
+use Rattle.ur_serve.specs.declared.responder.Reply.{Reply}
+use Rattle.ur_serve.specs.declared.responder.Reply.TheVariants as reply
 use Rattle.ur_serve.specs.Replies.{routed, handled, turned_away, is_head, is_post, Shows}
 use Rattle.ur_serve.specs.Replies as replies
 use Rattle.ur_serve.specs.Program.{held, events_of, settle_of, kept_store}
@@ -185,7 +185,7 @@ module _ (code : Code) (patterns : Patterns) (steps : ℕ) (q : HttpRequest) (cl
       (subst (λ o. Finishes q close o current saved' c₁ c' t r) es f))
 
   -- a request whose call was handled
-  pub answered_call : (m m' : Machine) (c c₁ c' : Cached) (saved saved₁ current₁ current saved' : Option Tables) (kept₁ kept' : Kept) (under_way under_way' : Bool) (reads reads₁ reads₂ reads' : ℕ) (t : Turn) (r : Reply)
+  pub answered_call : (m m' : Machine) (c c₁ c' : Cached) (saved saved₁ current₁ current saved' : Option Tables) (kept₁ kept' : KeptSchema) (under_way under_way' : Bool) (reads reads₁ reads₂ reads' : ℕ) (t : Turn) (r : Reply)
       → Starts code call q.cookies steps m → m.frames.units ≡ steps → c.masks ≡ [] → WhereTold saved (AreServable code.schema)
       → current₁ ≡ saved → saved₁ ≡ saved → reads₁ ≡ reads
       → WhereTold current₁ (λ s. HandledAs (sites_of code patterns) code m m' (store_of s) current c c₁ reads₁ reads₂ t)
@@ -230,7 +230,7 @@ module _ (code : Code) (patterns : Patterns) (steps : ℕ) (q : HttpRequest) (cl
 -- ---- other answers
 
 -- want of memory leaves the tables
-pub answered_memory : (code : Code) (patterns : Patterns) (steps : ℕ) (q : HttpRequest) (close : Bool) (c c' : Cached) (saved saved' : Option Tables) (kept' : Kept) (under_way' : Bool) (reads reads' : ℕ)
+pub answered_memory : (code : Code) (patterns : Patterns) (steps : ℕ) (q : HttpRequest) (close : Bool) (c c' : Cached) (saved saved' : Option Tables) (kept' : KeptSchema) (under_way' : Bool) (reads reads' : ℕ)
     → WhereTold saved (AreServable code.schema) → saved' ≡ saved → kept' ≡ Keeps code.schema → under_way' ≡ false → AreSavedAnswers code saved' c' → c'.masks ≡ [] → c'.capacity ≡ c.capacity
     → IsAnswered code patterns steps q close c c' saved saved' kept' under_way' reads reads' reply.Memory
 answered_memory code patterns steps q close c c' saved saved' kept' under_way' reads reads' servable es ek rest answers masks cap = record {
@@ -246,7 +246,7 @@ answered_memory code patterns steps q close c c' saved saved' kept' under_way' r
 }
 
 -- a request that is turned away
-pub answered_away : (code : Code) (patterns : Patterns) (steps : ℕ) (q : HttpRequest) (close : Bool) (c : Cached) (saved : Option Tables) (kept : Kept) (under_way : Bool) (reads status : ℕ) (allowed own : List ℕ) (head closes : Bool)
+pub answered_away : (code : Code) (patterns : Patterns) (steps : ℕ) (q : HttpRequest) (close : Bool) (c : Cached) (saved : Option Tables) (kept : KeptSchema) (under_way : Bool) (reads status : ℕ) (allowed own : List ℕ) (head closes : Bool)
     → routed code.handlers q ≡ turned_away status allowed → head ≡ is_head q.method → closes ≡ (q.close || close) → own ≡ status_answer status allowed head closes
     → WhereTold saved (AreServable code.schema) → kept ≡ Keeps code.schema → under_way ≡ false → AreSavedAnswers code saved c → c.masks ≡ []
     → IsAnswered code patterns steps q close c c saved saved kept under_way reads reads (reply.Done own)

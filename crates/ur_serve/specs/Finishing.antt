@@ -2,19 +2,19 @@
 use Rattle.std.specs.Prelude.{◌≡◌, ℕ, Bool, false, ◌||◌, List, [], Option, Result, Ok, Err, if◌then◌else◌}
 use Rattle.ur_base.specs.declared.refusal.Memory.{Memory}
 use Rattle.ur_base.specs.Told.{WhereTold, Tells}
-use Rattle.ur_keeper.specs.Tables.{Tables, Kept, Keeps, store_of}
+use Rattle.ur_keeper.specs.Tables.{Tables, KeptSchema, Keeps, store_of}
 use Rattle.ur_http.specs.declared.request.HttpRequest.{HttpRequest}
 use Rattle.ur_http.specs.Answers.{respond}
-use Rattle.ur_patterns.specs.declared.patterns.Patterns.{Patterns}
+use Rattle.ur_conditions.specs.declared.patterns.Patterns.{Patterns}
 use Rattle.ur_cache.specs.declared.cache.Settle.TheVariants.{Rollback}
 use Rattle.ur_cache.specs.Entries.{Cached, settled}
 use Rattle.ur_code.specs.declared.code.Code.{Code}
-use Rattle.ur_answers.specs.Answers.{AreSavedAnswers, sites_of}
-use Rattle.ur_turns.specs.declared.turn.Turn.{Turn}
-use Rattle.ur_turns.specs.declared.turn.Turn.TheVariants as turn
-use Rattle.ur_sessions.specs.declared.responder.Reply.{Reply}
-use Rattle.ur_sessions.specs.declared.responder.Reply.TheVariants as reply
-use Rattle.ur_sessions.specs.Sessions.{Answer}
+use Rattle.ur_machine.specs.Answers.{AreSavedAnswers, sites_of}
+use Rattle.ur_machine.specs.declared.turn.Turn.{Turn}
+use Rattle.ur_machine.specs.declared.turn.Turn.TheVariants as turn
+use Rattle.ur_serve.specs.declared.responder.Reply.{Reply}
+use Rattle.ur_serve.specs.declared.responder.Reply.TheVariants as reply
+use Rattle.ur_serve.specs.Sessions.{Answer}
 use Rattle.ur_serve.specs.Replies.{is_head, is_post}
 use Rattle.ur_serve.specs.Program.{code_program, Holding, CachedAnswers}
 use Rattle.ur_serve.specs.Served.{IfDone, UnlessDone}
@@ -47,7 +47,7 @@ IsDone code patterns steps q close c c' saved saved' reads reads' bytes = (a : A
 
 -- all that holds of the answer to a request but the causes of faults
 pub record IsAnswered (code : Code) (patterns : Patterns) (steps : ℕ) (q : HttpRequest) (close : Bool) (c c' : Cached) (saved saved' : Option Tables)
-    (kept' : Kept) (under_way' : Bool) (reads reads' : ℕ) (r : Reply) : Type 0 where
+    (kept' : KeptSchema) (under_way' : Bool) (reads reads' : ℕ) (r : Reply) : Type 0 where
   pub done : WhereTold saved (λ t. IfDone r (IsDone code patterns steps q close c c' t saved' reads reads'))
   pub unsaved : UnlessDone r (saved' ≡ saved)
   pub schema : kept' ≡ Keeps code.schema

@@ -1,3 +1,10 @@
+pub mod Fronts
+pub mod Items
+pub mod Sessions
+pub mod Programs
+pub mod Arrivals
+pub mod Saying
+pub mod Faults
 pub mod Ending
 pub mod Finishing
 pub mod Handling

@@ -7,7 +7,7 @@ use Rattle.ur_values.specs.Store.{Store}
 use Rattle.ur_terms.specs.State.{Outcome, Done, Error, Spent, Stuck}
 use Rattle.ur_code.specs.declared.code.Cookie.{Cookie}
 use Rattle.ur_machine.specs.Cookies.{carried}
-use Rattle.ur_frames.specs.Plays.{held as state_held}
+use Rattle.ur_machine_frames.specs.Plays.{held as state_held}
 use Rattle.ur_tags.specs.declared.routes.Handlers.{Handlers}
 use Rattle.ur_http.specs.declared.request.Method.{Method}
 use Rattle.ur_http.specs.declared.request.Method.TheVariants.{Post}
@@ -18,10 +18,10 @@ use Rattle.ur_cache.specs.Entries.{Entry}
 use Rattle.ur_cache.specs.Cached.{Sites, cached}
 use Rattle.ur_code.specs.declared.code.Code.{Code}
 use Rattle.ur_code.specs.Meaning.{outcome}
-use Rattle.ur_patterns.specs.declared.patterns.Patterns.{Patterns}
-use Rattle.ur_answers.specs.Answers.{sites_of, scanned}
-use Rattle.ur_sessions.specs.Sessions.{Answer}
-use Rattle.ur_sessions.specs.Programs as sessions
+use Rattle.ur_conditions.specs.declared.patterns.Patterns.{Patterns}
+use Rattle.ur_machine.specs.Answers.{sites_of, scanned}
+use Rattle.ur_serve.specs.Sessions.{Answer}
+use Rattle.ur_serve.specs.Programs as sessions
 use Rattle.ur_serve.specs.Replies.{Meaning, Replies, ReachesHandler}
 
 -- a program as its requests see it: its routes, its cookies, and what its calls come to
@@ -98,14 +98,14 @@ fresh store reads = record { store = store; entries = []; reads = reads }
 -- ---- what a server holds of a program
 
 -- the code, its patterns, the units of each request, and the capacity of the cache
-pub record Served : Type 0 where
+pub record ServedProgram : Type 0 where
   pub code : Code
   pub patterns : Patterns
   pub steps : ℕ
   pub capacity : ℕ
 
-abbrev pub ServedAnswers : Served → Holding → HttpRequest → Bool → Answer Holding → Type 0
+abbrev pub ServedAnswers : ServedProgram → Holding → HttpRequest → Bool → Answer Holding → Type 0
 ServedAnswers p = CachedAnswers (code_program p.code p.steps) (sites_of p.code p.patterns) p.capacity
 
-abbrev pub ServedReaches : Served → HttpRequest → Type 0
+abbrev pub ServedReaches : ServedProgram → HttpRequest → Type 0
 ServedReaches p = ReachesHandler p.code.handlers

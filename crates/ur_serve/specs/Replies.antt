@@ -12,13 +12,13 @@ use Rattle.ur_tags.specs.declared.routes.Route.{Route}
 use Rattle.ur_tags.specs.declared.routes.Handlers.{Handlers}
 use Rattle.ur_code.specs.declared.code.Cookie.{Cookie}
 use Rattle.ur_machine.specs.Cookies.{first_value}
-use Rattle.ur_turns.specs.Cookies.{sent_pairs}
+use Rattle.ur_machine.specs.TurnsCookies.{sent_pairs}
 use Rattle.ur_tags.specs.Paths.{route_path}
 use Rattle.ur_tags.specs.Show.{show, show_error, show_text}
 use Rattle.ur_http.specs.declared.request.Method.{Method}
 use Rattle.ur_http.specs.declared.request.Method.TheVariants.{Get, Head, Post, Other}
 use Rattle.ur_http.specs.declared.request.HttpRequest.{HttpRequest}
-use Rattle.ur_sessions.specs.Sessions.{Answer}
+use Rattle.ur_serve.specs.Sessions.{Answer}
 use Rattle.ur_http.specs.Answers.{respond, status_answer}
 
 -- ---- the call of a request

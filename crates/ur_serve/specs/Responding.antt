@@ -1,11 +1,11 @@
 -- The server as what answers the requests of sessions.
 use Rattle.std.specs.Prelude.{ℕ, Option, option_map}
 use Rattle.ur_keeper.specs.Tables.{Tables, store_of}
-use Rattle.ur_serve.specs.Program.{Holding, Served}
+use Rattle.ur_serve.specs.Program.{Holding, ServedProgram}
 use Rattle.ur_serve.specs.Serving.{ServerState}
 
 -- what of a server no answer changes
-abbrev pub served_by : ServerState → Served
+abbrev pub served_by : ServerState → ServedProgram
 served_by s = record { code = s.code; patterns = s.patterns; steps = s.steps; capacity = s.cache.capacity }
 
 -- what answers change, where the saved tables are told

@@ -1,7 +1,7 @@
 -- Words on what a server's calls answer.
 use Rattle.std.specs.Prelude.{◌≡◌, ℕ, List, ⊤}
-use Rattle.ur_sessions.specs.declared.responder.Reply.{Reply}
-use Rattle.ur_sessions.specs.declared.responder.Reply.TheVariants as reply
+use Rattle.ur_serve.specs.declared.responder.Reply.{Reply}
+use Rattle.ur_serve.specs.declared.responder.Reply.TheVariants as reply
 use Rattle.ur_serve.specs.declared.ends.NewEnd.{NewEnd}
 use Rattle.ur_serve.specs.declared.ends.NewEnd.TheVariants as end
 use Rattle.ur_serve.specs.declared.ends.Routed.{Routed}

@@ -2,12 +2,12 @@
 use Rattle.std.specs.Prelude.{◌≡◌, ◌≤◌, ℕ, ◌+◌, ◌*◌, Bool, false, [], Option}
 use Rattle.ur_base.specs.Told.{WhereTold}
 use Rattle.ur_values.specs.declared.schema.Schema.{Schema}
-use Rattle.ur_keeper.specs.Tables.{Tables, Kept, Keeps, AreTablesOf, MayCommit, NumbersUpTo, store_of}
+use Rattle.ur_keeper.specs.Tables.{Tables, KeptSchema, Keeps, AreTablesOf, MayCommit, NumbersUpTo, store_of}
 use Rattle.ur_tags.specs.Routes.{AreRoutes}
-use Rattle.ur_patterns.specs.declared.patterns.Patterns.{Patterns}
+use Rattle.ur_conditions.specs.declared.patterns.Patterns.{Patterns}
 use Rattle.ur_cache.specs.Entries.{Cached}
 use Rattle.ur_code.specs.declared.code.Code.{Code}
-use Rattle.ur_answers.specs.Answers.{ArePatternsOf, AreEntriesOf, AreAnswersOver}
+use Rattle.ur_machine.specs.Answers.{ArePatternsOf, AreEntriesOf, AreAnswersOver}
 
 -- what a server holds: the code, its patterns, the entries of its cache, and the units of each request
 pub record ServerState : Type 0 where
@@ -31,7 +31,7 @@ pub record AreServable (schema : Schema) (t : Tables) : Type 0 where
 
 -- The keeper keeps the code's schema and has no transaction under way; where the saved tables are told they may be served,
 -- and the entries are the answers over them.
-pub record IsReady (s : ServerState) (kept : Kept) (under_way : Bool) (saved : Option Tables) : Type 0 where
+pub record IsReady (s : ServerState) (kept : KeptSchema) (under_way : Bool) (saved : Option Tables) : Type 0 where
   pub schema : kept ≡ Keeps s.code.schema
   pub at_rest : under_way ≡ false
   pub tables : WhereTold saved (AreServable s.code.schema)
@@ -49,7 +49,7 @@ abbrev pub GrowBy : ℕ → Option Tables → Option Tables → Type 0
 GrowBy n saved saved' = (m : ℕ) → WhereTold saved (NumbersUpTo m) → WhereTold saved' (NumbersUpTo (m + n))
 
 -- so many requests may still be answered before a row number or a next number is above the bound
-pub record IsReadyWithin (bound : ℕ) (s : ServerState) (kept : Kept) (under_way : Bool) (saved : Option Tables) (n : ℕ) : Type 0 where
+pub record IsReadyWithin (bound : ℕ) (s : ServerState) (kept : KeptSchema) (under_way : Bool) (saved : Option Tables) (n : ℕ) : Type 0 where
   pub ready : IsReady s kept under_way saved
   pub most : ℕ
   pub numbers : WhereTold saved (NumbersUpTo most)

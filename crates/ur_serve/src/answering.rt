@@ -5,24 +5,23 @@ ghost use Rattle.ur_base.specs.Told.{WhereTold};
 ghost use Rattle.ur_keeper.specs.Tables.{Keeps, NumbersUpTo};
 ghost use Rattle.ur_code.specs.Fits.{Fits};
 ghost use Rattle.ur_code.specs.RouteTypes.{IsRequestOf};
-ghost use Rattle.ur_answers.specs.Answers.{ArePatternsOf, AreSavedAnswers};
+ghost use Rattle.ur_machine.specs.Answers.{ArePatternsOf, AreSavedAnswers};
 ghost use Rattle.ur_serve.specs.Finishing.{IsAnswered};
 ghost use Rattle.ur_serve.specs.Replies as words;
 ghost use Rattle.ur_http.specs.Texts.{IsText};
 ghost use Rattle.ur_serve.specs.Serving.{AreServable};
 
-use crate::Routed;
 use crate::finishing::{closes, finish, give_up, is_head};
 use crate::handling::handle;
 use crate::routing::route_request;
+use crate::{Reply, Routed};
 use std::alloc::Global;
 use ur_cache::Cache;
 use ur_code::Code;
+use ur_conditions::Patterns;
 use ur_http::{HttpRequest, status_answer};
 use ur_keeper::Keeper;
 use ur_machine::Machine;
-use ur_patterns::Patterns;
-use ur_sessions::Reply;
 use ur_values::Call;
 
 /// Answers a request. Nothing of the keeper is touched before the call is known.
@@ -101,6 +100,7 @@ fn answer_call<K: Keeper>(
     match Machine::start(alloc, code, call, request.cookies.as_slice(), steps) {
         Ok(machine) => {
             let mut machine = machine;
+            // The clause `bound` of `units` is wanted, and not the number.
             machine.units();
             let turn = handle(alloc, code, patterns, &mut machine, keeper, cache);
             finish(alloc, code, keeper, cache, turn, request, close)

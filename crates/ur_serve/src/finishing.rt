@@ -5,14 +5,15 @@ ghost use Rattle.ur_base.specs.Told.{WhereTold};
 ghost use Rattle.ur_keeper.specs.Keeper.{OfSchema};
 ghost use Rattle.ur_keeper.specs.Tables.{Keeps, MayCommit};
 ghost use Rattle.ur_cache.specs.Entries.{settled};
-ghost use Rattle.ur_answers.specs.Answers.{AreSavedAnswers, AreCurrentAnswers};
-ghost use Rattle.ur_turns.specs.Turning.{IsKeeperUndone};
+ghost use Rattle.ur_machine.specs.Answers.{AreSavedAnswers, AreCurrentAnswers};
+ghost use Rattle.ur_machine.specs.Turning.{IsKeeperUndone};
 ghost use Rattle.ur_serve.specs.Ending.{settle_for};
 ghost use Rattle.ur_serve.specs.Finishing.{EndsWith, Finishes};
 ghost use Rattle.ur_serve.specs.Handling.{IsLast};
 ghost use Rattle.ur_serve.specs.Replies as words;
 ghost use Rattle.ur_serve.specs.Serving.{AreServable};
 
+use crate::Reply;
 use crate::ending::end;
 use std::alloc::Global;
 use ur_base::{Bytes, Memory};
@@ -20,8 +21,7 @@ use ur_cache::{Cache, Settle};
 use ur_code::Code;
 use ur_http::{HttpRequest, Method, respond};
 use ur_keeper::{Keeper, KeeperEnd};
-use ur_sessions::Reply;
-use ur_turns::Turn;
+use ur_machine::Turn;
 
 /// Builds the answer of the last turn, and ends the transaction: by a commit where the answer to a POST is a page, and else by
 /// giving up the tables.
@@ -144,7 +144,7 @@ fn end_with<K: Keeper>(
     }
 }
 
-/// Gives up the tables, and the masks with them.
+/// Gives up the tables, and the masks with them. The code is there for the contract.
 pub(crate) fn give_up<K: Keeper>(code: &Code, keeper: &mut K, cache: &mut Cache)
     requires under_way { K.under_way keeper.old ≡ true }
     requires saved { AreSavedAnswers code.now (K.saved keeper.old) cache.old }

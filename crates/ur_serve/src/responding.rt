@@ -1,21 +1,20 @@
 //! The server as what answers the requests of sessions.
-use crate::Server;
+use crate::{Reply, Responder, Server};
 use std::alloc::Global;
 use ur_http::HttpRequest;
 use ur_keeper::Keeper;
-use ur_sessions::{Reply, Responder};
 
 /// The program is what the server holds of it; the state is the saved store with the entries of the cache and the count of scans,
 /// of which a fault leaves the store.
 impl<K: Keeper> Responder<K> for Server {
     ghost use Rattle.std.specs.Prelude.{ℕ};
     ghost use Rattle.ur_values.specs.Store.{Store};
-    ghost use Rattle.ur_serve.specs.Program.{Served, Holding, ServedAnswers, ServedReaches};
+    ghost use Rattle.ur_serve.specs.Program.{ServedProgram, Holding, ServedAnswers, ServedReaches};
     ghost use Rattle.ur_serve.specs.Serving.{IsReadyWithin};
     ghost use Rattle.ur_serve.specs.Responding.{served_by, holding_of};
     ghost use Rattle.std.proofs.Math.Nat.{le_step};
 
-    ghost Program = { Served };
+    ghost Program = { ServedProgram };
 
     ghost State = { Holding };
 

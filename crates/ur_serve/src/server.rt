@@ -1,14 +1,13 @@
 //! The server.
-use crate::NewEnd;
 use crate::answering::answer_request;
 use crate::attaching::attach;
+use crate::{NewEnd, Reply};
 use std::alloc::Global;
 use std::marker::Model;
 use ur_cache::Cache;
+use ur_conditions::Patterns;
 use ur_http::HttpRequest;
 use ur_keeper::Keeper;
-use ur_patterns::Patterns;
-use ur_sessions::Reply;
 use ur_verify::Verified;
 
 /// The code that is served, its patterns, the cache of its answers, and the units of each request.
@@ -24,7 +23,7 @@ impl Model for Server {
     ghost use Rattle.std.specs.Coded.{codes};
     ghost use Rattle.ur_serve.specs.Serving.{ServerState, IsServer};
     ghost use Rattle.ur_values.specs.contracts.value.Value as value;
-    ghost use Rattle.ur_types.specs.contracts.types.ValueType as value_type;
+    ghost use Rattle.ur_values.specs.contracts.types.ValueType as value_type;
     ghost use Rattle.ur_sql.specs.contracts.scalar.Scalar as scalar;
     ghost use Rattle.ur_terms.specs.contracts.term.Term as term;
 
@@ -44,7 +43,7 @@ impl Server {
     ghost use Rattle.ur_keeper.specs.declared.keeper.Attached.TheVariants.{Ready, Differs as Other};
     ghost use Rattle.ur_keeper.specs.Keeper.{AttachesTo};
     ghost use Rattle.ur_keeper.specs.Tables.{NumbersUpTo, AreSound};
-    ghost use Rattle.ur_answers.specs.Answers.{ArePatternsOf};
+    ghost use Rattle.ur_machine.specs.Answers.{ArePatternsOf};
     ghost use Rattle.ur_serve.specs.Replies.{ReachesHandler};
     ghost use Rattle.ur_http.specs.Texts.{IsText};
     ghost use Rattle.ur_tags.specs.Routes.{AreRoutes};

@@ -1,7 +1,7 @@
 -- The instances of a checked source with their first-order functions.
 use Rattle.std.specs.Prelude.{◌≡◌, ℕ, List, [], ◌++◌, map, filter, not, codes, Option, Some, option_map, slice_get}
 use Rattle.std.specs.List.{AllZip}
-use Rattle.ur_types.specs.declared.types.ValueType.{ValueType}
+use Rattle.ur_values.specs.declared.types.ValueType.{ValueType}
 use Rattle.ur_terms.specs.declared.term.Function.{Function}
 use Rattle.ur_rows.specs.declared.normal.NormalType.{NormalType}
 use Rattle.ur_tree.specs.declared.exp.Param.{Param}

@@ -9,7 +9,6 @@ pub mod NewRows
 pub mod Operands
 pub mod Outcome
 pub mod PlannedRows
-pub mod Repeats
 pub mod SortedGroups
 pub mod StableSort
 pub mod Stored

@@ -1,9 +1,6 @@
 -- What an expression was evaluated to, as the value that it stands for.
-use Rattle.std.specs.Prelude.{List, map}
-use Rattle.std.specs.Borrow.{Bor}
 use Rattle.ur_values.specs.declared.value.Value.{Value}
 use Rattle.ur_values.specs.declared.value.Value.TheVariants as v
-use Rattle.ur_values.specs.Store.{Row}
 use Rattle.ur_sql.specs.declared.operand.Operand.{Operand}
 use Rattle.ur_sql.specs.declared.operand.Operand.TheVariants as o
 
@@ -12,10 +9,6 @@ value_in (o.Held x) = x.now
 value_in (o.Int n) = v.Int n
 value_in (o.Bool b) = v.Bool b
 value_in o.Absent = v.Absent
-
--- the rows that are lent, one of each item
-abbrev pub rows_in : List (Bor Row) → List Row
-rows_in = map (λ row. row.now)
 
 abbrev pub IsNoInt : Value → Type 0
 IsNoInt (v.Int n) = ⊥

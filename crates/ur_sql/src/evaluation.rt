@@ -1,7 +1,8 @@
 //! The values of scalar expressions.
 ghost use Rattle.std.specs.Prelude.{◌≡◌, ℕ, IfOk, slice_index_or};
 ghost use Rattle.ur_values.specs.declared.value.Value.TheVariants as v;
-ghost use Rattle.ur_sql.specs.Operand.{value_in, rows_in};
+ghost use Rattle.ur_values.specs.KeyOrder.{lent_rows};
+ghost use Rattle.ur_sql.specs.Operand.{value_in};
 ghost use Rattle.ur_sql.specs.Scalar.{column_at, value_of, holds, holds_if_any};
 
 use crate::operand::{
@@ -20,21 +21,21 @@ pub fn value_of(
     rows: &[&Row],
     by: &Scalar,
 ) -> Result<Value, Memory>
-    ensures { IfOk result (λ value. value ≡ value_of params.now (rows_in rows.now) by.now) }
+    ensures { IfOk result (λ value. value ≡ value_of params.now (lent_rows rows.now) by.now) }
 {
     evaluate(params, rows, by).to_value(alloc)
 }
 
 /// Whether a condition holds with these parameters at these rows. Takes no memory.
 pub fn holds(params: &[Value], rows: &[&Row], by: &Scalar) -> bool
-    ensures { result ≡ holds params.now (rows_in rows.now) by.now }
+    ensures { result ≡ holds params.now (lent_rows rows.now) by.now }
 {
     is_true(evaluate(params, rows, by))
 }
 
 /// Whether a condition holds, if there is one. Takes no memory.
 pub fn holds_if_any(params: &[Value], rows: &[&Row], by: &Option<Scalar>) -> bool
-    ensures { result ≡ holds_if_any params.now (rows_in rows.now) by.now }
+    ensures { result ≡ holds_if_any params.now (lent_rows rows.now) by.now }
 {
     match by {
         None => true,
@@ -45,7 +46,7 @@ pub fn holds_if_any(params: &[Value], rows: &[&Row], by: &Option<Scalar>) -> boo
 /// The value of an expression, lent where it stands in a row, a parameter or a constant. Takes no memory.
 #[tactic(auto, using(crate::proofs::Equations::values))]
 pub fn evaluate<'a>(params: &'a [Value], rows: &[&'a Row], by: &'a Scalar) -> Operand<'a>
-    ensures { value_in result ≡ value_of params.now (rows_in rows.now) by.now }
+    ensures { value_in result ≡ value_of params.now (lent_rows rows.now) by.now }
 {
     match by {
         Scalar::Constant(value) => Operand::Held(value),
@@ -83,7 +84,7 @@ pub fn evaluate<'a>(params: &'a [Value], rows: &[&'a Row], by: &'a Scalar) -> Op
 
 /// A column of the rows, and Absent where there is none.
 pub fn column_at<'a>(rows: &[&'a Row], item: u32, column: u32) -> Operand<'a>
-    ensures { value_in result ≡ column_at (rows_in rows.now) item column }
+    ensures { value_in result ≡ column_at (lent_rows rows.now) item column }
 {
     match rows.get(item as usize) {
         None => Operand::Absent,

@@ -9,11 +9,10 @@ ghost use Rattle.ur_sql.specs.Typing.{ActionFits};
 ghost use Rattle.ur_sql.specs.Merged.{merged};
 
 use crate::change::{Action, Change, Planned, RowChange};
-use crate::keys::repeated_key;
 use crate::row_changes::{row_changes, rows_after};
 use std::alloc::Global;
 use ur_base::{List, Memory};
-use ur_values::{Numbered, TableShape, Value};
+use ur_values::{Numbered, TableShape, Value, repeated_key};
 
 /// A table holds no more rows.
 const MOST_ROWS: usize = 1_000_000;

@@ -1,5 +1,5 @@
 -- From what a call of the database says to what the functions of this crate promise.
-use Rattle.std.proofs.Common.{◌≡◌, ◌⊎◌, inl, inr, ℕ, ℤ, Bool, true, false, not, List, [], ◌∷◌, map, Option, Some, None, is_some, option_map, Ok, Err, Result, IfOk, IfErr, OnOk, OnErr, IsTrue, T, refl, sym, ap, subst, ◌∙◌, if◌then◌else◌}
+use Rattle.std.proofs.Common.{◌≡◌, ◌≢◌, ◌⊎◌, inl, inr, ℕ, ℤ, Bool, true, false, not, List, [], ◌∷◌, map, Option, Some, None, is_some, option_map, Ok, Err, Result, IfOk, IfErr, OnOk, OnErr, IsTrue, T, refl, sym, ap, subst, ◌∙◌, if◌then◌else◌}
 use Rattle.std.specs.FinMap.{insert, remove}
 use Rattle.sqlite.specs.declared.types.Value.TheVariants.{Int, Blob}
 use Rattle.sqlite.specs.Order.{Row}
@@ -13,12 +13,12 @@ use Rattle.sqlite.specs.Store as store
 use Rattle.sqlite.specs.Held.{Held, state}
 use Rattle.sqlite.proofs.Callers.{IsPlain}
 use Rattle.ur_base.specs.Told.{WhereTold, Becomes}
-use Rattle.ur_bodies.specs.Bodies.{Place, BodyMap, body_at, bodies_of, CanWrite, CanWriteOne, written, written_one, IsOpened}
-use Rattle.ur_bodies.specs.declared.bodies.BodyChange.{BodyChange}
-use Rattle.ur_bodies.specs.declared.bodies.BodyChange.TheVariants as change
-use Rattle.ur_sqlkeeper.specs.Table.{ur_schema, read_text, one_text, add_text, put_text, drop_text}
-use Rattle.ur_sqlkeeper.specs.Rows.{map_in, ShowsTable, ShowsPlace}
-use Rattle.ur_sqlkeeper.specs.Serving.{IsOurs, IsServing, IsStill, Makes, told_by}
+use Rattle.ur_keeper_bodies.specs.Bodies.{Place, BodyMap, body_at, bodies_of, CanWrite, CanWriteOne, written, written_one, IsOpened}
+use Rattle.ur_keeper_bodies.specs.declared.bodies.BodyChange.{BodyChange}
+use Rattle.ur_keeper_bodies.specs.declared.bodies.BodyChange.TheVariants as change
+use Rattle.ur_sqlkeeper.specs.Table.{ur_schema, no_schema, read_text, one_text, add_text, put_text, drop_text}
+use Rattle.ur_sqlkeeper.specs.Rows.{AreKept, map_in, ShowsTable, ShowsPlace}
+use Rattle.ur_sqlkeeper.specs.Serving.{IsOurs, IsServing, IsStill, IsFound, Holds, Makes, Connects, told_by}
 use Rattle.ur_sqlkeeper.proofs.Entries.{told, told-at, at}
 use Rattle.ur_sqlkeeper.proofs.Queries.{shows-table, shows-place}
 use Rattle.ur_sqlkeeper.proofs.Texts.{read_plain, one_plain}
@@ -141,34 +141,47 @@ goes-on old now next changes c left g m = record {
 pub all-made : (old now : State) (changes : List BodyChange) → Goes old now changes [] → Makes (λ m. written m changes) old now
 all-made old now changes g = record { ours = g.ours; committed = g.committed; under_way = g.under_way; map = g.rest }
 
+-- ---- what a connection finds
+
+-- the table was made
+pub made-holds : (found : BodyMap) (old new : Database) → old.schema ≡ no_schema → IsFound found old → new.trees 0 ≡ [] → Holds found new
+made-holds found old new none (inl h) e = record { rows = subst AreKept (sym e) (record { kept = []; are = refl; rise = tt }); map = ap map_in e ∙ sym h.1 }
+made-holds found old new none (inr h) e = absurd (h.0 none)
+
+-- there was something
+pub found-holds : (found : BodyMap) (db : Database) → db.schema ≢ no_schema → IsFound found db → Holds found db
+found-holds found db some (inl h) = absurd (some h.0)
+found-holds found db some (inr h) = h.1
+
 -- ---- what is told
 
 module _ {S : Type 0} (g : store.Ghosts S) where
-  pub told-same : (honest : Bool) (old new : Held S) → (honest ≡ true → (state g new).now ≡ (state g old).now) → told_by g honest (Some new) ≡ told_by g honest (Some old)
-  told-same true old new h = ap (λ (d : Database). Some (map_in (d.trees 0))) (h refl)
-  told-same false old new h = refl
+  pub told-same : (honest : Bool) (found : BodyMap) (old new : Held S) → (honest ≡ true → (state g new).now ≡ (state g old).now) → told_by g honest found (Some new) ≡ told_by g honest found (Some old)
+  told-same true found old new h = ap (λ (d : Database). Some (map_in (d.trees 0))) (h refl)
+  told-same false found old new h = refl
 
-  pub where-told : (honest : Bool) (old : Held S) (P : BodyMap → Type 0) → (honest ≡ true → P (map_in ((state g old).now.trees 0))) → WhereTold (told_by g honest (Some old)) P
-  where-told true old P h = h refl
-  where-told false old P h = tt
+  pub where-told : (honest : Bool) (found : BodyMap) (old : Held S) (P : BodyMap → Type 0) → (honest ≡ true → P (map_in ((state g old).now.trees 0))) → WhereTold (told_by g honest found (Some old)) P
+  where-told true found old P h = h refl
+  where-told false found old P h = tt
 
-  pub told-known : (honest : Bool) (old : Held S) (P : BodyMap → Type 0) → WhereTold (told_by g honest (Some old)) P → honest ≡ true → P (map_in ((state g old).now.trees 0))
-  told-known true old P h e = h
-  told-known false old P h e = absurd (subst T (sym e) tt)
+  pub told-known : (honest : Bool) (found : BodyMap) (old : Held S) (P : BodyMap → Type 0) → WhereTold (told_by g honest found (Some old)) P → honest ≡ true → P (map_in ((state g old).now.trees 0))
+  told-known true found old P h e = h
+  told-known false found old P h e = absurd (subst T (sym e) tt)
 
-  pub told-becomes : (honest : Bool) (old new : Held S) (f : BodyMap → BodyMap) → (honest ≡ true → map_in ((state g new).now.trees 0) ≡ f (map_in ((state g old).now.trees 0))) → Becomes f (told_by g honest (Some old)) (told_by g honest (Some new))
-  told-becomes true old new f h = ap (λ (m : BodyMap). Some m) (h refl)
-  told-becomes false old new f h = refl
+  pub told-becomes : (honest : Bool) (found : BodyMap) (old new : Held S) (f : BodyMap → BodyMap) → (honest ≡ true → map_in ((state g new).now.trees 0) ≡ f (map_in ((state g old).now.trees 0)))
+      → Becomes f (told_by g honest found (Some old)) (told_by g honest found (Some new))
+  told-becomes true found old new f h = ap (λ (m : BodyMap). Some m) (h refl)
+  told-becomes false found old new f h = refl
 
-  -- nothing is told before a connection is there
-  pub told-none : (honest : Bool) → told_by g honest None ≡ None
-  told-none true = refl
-  told-none false = refl
+  -- a connection serves the map that was told before it was there
+  pub told-first : (honest : Bool) (found : BodyMap) (new : Held S) → (honest ≡ true → Connects found (state g new)) → told_by g honest found (Some new) ≡ told_by g honest found None
+  told-first true found new h = ap (λ (m : BodyMap). Some m) (h refl).map
+  told-first false found new h = refl
 
   -- a call that leaves the database as it is
-  pub opened-same : (honest : Bool) (old new : Held S) → (honest ≡ true → IsServing (state g old)) → (honest ≡ true → IsServing (state g old) → IsStill (state g old).now (state g new))
-      → told_by g honest (Some new) ≡ told_by g honest (Some old)
-  opened-same honest old new serving still = told-same honest old new (λ e. (still e (serving e)).now)
+  pub opened-same : (honest : Bool) (found : BodyMap) (old new : Held S) → (honest ≡ true → IsServing (state g old)) → (honest ≡ true → IsServing (state g old) → IsStill (state g old).now (state g new))
+      → told_by g honest found (Some new) ≡ told_by g honest found (Some old)
+  opened-same honest found old new serving still = told-same honest found old new (λ e. (still e (serving e)).now)
 
   pub serves-on : (honest : Bool) (old new : Held S) → (honest ≡ true → IsServing (state g old)) → (honest ≡ true → IsServing (state g old) → IsStill (state g old).now (state g new)) → honest ≡ true → IsServing (state g new)
   serves-on honest old new serving still e = still-serving (state g old) (state g new) (serving e) (still e (serving e))

@@ -12,8 +12,8 @@ use Rattle.sqlite.specs.Order.{Row, value_cmp}
 use Rattle.sqlite.specs.Tree.{rowid, has_rowid, put_row, without_rowid}
 use Rattle.sqlite.specs.Edit.{is_taken}
 use Rattle.sqlite_value.proofs.OrderLemmas.{value_cmp-Int}
-use Rattle.ur_bodies.specs.Bodies.{Place, BodyMap, place_cmp, body_at}
-use Rattle.ur_bodies.proofs.Places.{place_total, place_same, both, first, second}
+use Rattle.ur_keeper_bodies.specs.Bodies.{Place, BodyMap, place_cmp, body_at}
+use Rattle.ur_keeper_bodies.proofs.Places.{place_total, place_same, both, first, second}
 use Rattle.ur_sqlkeeper.specs.Rows.{Body, Kept, stored, kept_in, bodies_kept, map_in, is_at}
 
 -- ---- rows and entries

@@ -11,7 +11,7 @@ use Rattle.std.specs.FinMap.{find, is_sorted, int_cmp-IsAntisymmetric}
 use Rattle.std.specs.FinMap.Entries.{below_all}
 use Rattle.std.proofs.lemmas.List.Sorted.{All-permutation, IsPermutation-sym}
 use Rattle.std.proofs.lemmas.List.Elements.{All-from_recursion, recursion_from_All}
-use Rattle.ur_bodies.proofs.Places.{both, first, second}
+use Rattle.ur_keeper_bodies.proofs.Places.{both, first, second}
 use Rattle.sqlite.specs.Order.{Row}
 use Rattle.ur_sqlkeeper.specs.Entries.{Entry, Above, EndsAt, entry_in, is_below}
 

@@ -25,8 +25,8 @@ use Rattle.sqlite_value.proofs.OrderLemmas.{value_cmp-Int}
 use Rattle.sqlite_value.specs.declared.keys.Key.{Key}
 use Rattle.sqlite.specs.State.{State, Shown}
 use Rattle.sqlite.proofs.Callers.{reads_as, one_permutation}
-use Rattle.ur_bodies.specs.Bodies.{Place, BodyMap, place_cmp, body_at, bodies_of}
-use Rattle.ur_bodies.proofs.Tables.{same-bodies}
+use Rattle.ur_keeper_bodies.specs.Bodies.{Place, BodyMap, place_cmp, body_at, bodies_of}
+use Rattle.ur_keeper_bodies.proofs.Tables.{same-bodies}
 use Rattle.ur_sqlkeeper.specs.Table.{ur_schema, read_text, one_text}
 use Rattle.ur_sqlkeeper.specs.Rows.{Kept, stored, kept_in, bodies_kept, map_in, is_of, is_at, as_entry, AreKept, ShowsTable, ShowsPlace}
 use Rattle.ur_sqlkeeper.specs.Entries.{Entry, entry_in, body_in}

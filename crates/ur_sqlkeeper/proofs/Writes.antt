@@ -34,8 +34,8 @@ use Rattle.sqlite.specs.Rows.{Written, Task}
 use Rattle.sqlite.specs.Does.{Tally, Does, Concludes, lacks_sequence}
 use Rattle.sqlite.specs.State.{State, mode_of, Writes, Executes}
 use Rattle.sqlite.proofs.Callers.{command_of, statement_of, runs_as, one_step, one_permutation}
-use Rattle.ur_bodies.specs.Bodies.{Place, BodyMap, place_cmp}
-use Rattle.ur_bodies.proofs.Places.{place_same}
+use Rattle.ur_keeper_bodies.specs.Bodies.{Place, BodyMap, place_cmp}
+use Rattle.ur_keeper_bodies.proofs.Places.{place_same}
 use Rattle.ur_sqlkeeper.specs.Table.{ur_row, ur_schema, no_schema, create_text, add_text, put_text, drop_text}
 use Rattle.ur_sqlkeeper.specs.Rows.{Body, Kept, stored, kept_in, map_in, is_at, AreKept}
 use Rattle.ur_sqlkeeper.specs.Serving.{IsOurs}

@@ -5,7 +5,7 @@ use Rattle.std.specs.FinMap.{from_entries, is_sorted}
 use Rattle.sqlite.specs.declared.types.Value.TheVariants.{Int, Blob}
 use Rattle.sqlite.specs.Order.{Row, column, bytes}
 use Rattle.sqlite.specs.Edit.{id_in}
-use Rattle.ur_bodies.specs.Bodies.{Place, BodyMap, place_cmp}
+use Rattle.ur_keeper_bodies.specs.Bodies.{Place, BodyMap, place_cmp}
 
 abbrev pub Body : Type 0
 Body = Place × List ℕ

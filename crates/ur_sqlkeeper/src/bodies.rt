@@ -1,10 +1,9 @@
 //! Bodies in a database.
 ghost use Rattle.std.specs.Prelude.{◌≡◌, ◌≤◌, true, false, None, is_some, IsTrue, IfOk, OnOk};
-ghost use Rattle.std.proofs.Common.{true≢false, sym};
 ghost use Rattle.ur_base.specs.Counts.{Rose};
 ghost use Rattle.sqlite.specs.Held.{state};
 ghost use Rattle.ur_sqlkeeper.specs.Rows.{AreKept};
-ghost use Rattle.ur_sqlkeeper.specs.Serving.{IsFound, IsServing, told_by};
+ghost use Rattle.ur_sqlkeeper.specs.Serving.{Connects, Holds, IsFound, IsServing, is_told, told_by};
 
 use crate::honest::Honest;
 use crate::reading::{one, read};
@@ -12,12 +11,13 @@ use crate::schema::{is_empty, is_ours};
 use crate::statements::create;
 use crate::writing::write;
 use sqlite::{Connection, Error, ErrorCode, File, FileStore, MemStore};
+use sqlite_disk::Memory;
 use std::marker::Model;
 use std::rt::HostRuntime;
 use ur_base::{Bytes, List, Text};
-use ur_bodies::{Bodies, BodyChange};
 use ur_keeper::KeeperEnd;
-use ur_kept::Kept;
+use ur_keeper_bodies::{Bodies, BodyChange};
+use ur_keeper_kept::Kept;
 
 /// Bodies in the one table of a database.
 #[derive(Drop)]
@@ -49,6 +49,15 @@ pub type SqlKeeper<S> = Kept<SqlBodies<S>>;
 impl SqlBodies<MemStore> {
     /// Bodies in a store in memory, which `open` makes. Takes no memory.
     pub fn in_memory(rt: HostRuntime) -> SqlBodies<MemStore>
+        ensures { result ≡ record { conn = None; faults = 0 } }
+    {
+        SqlBodies::closed(rt, List::new(rt.alloc()))
+    }
+}
+
+impl SqlBodies<FileStore<Memory>> {
+    /// Bodies in new files in memory, which `open` makes. Takes no memory.
+    pub fn in_memory_files(rt: HostRuntime) -> SqlBodies<FileStore<Memory>>
         ensures { result ≡ record { conn = None; faults = 0 } }
     {
         SqlBodies::closed(rt, List::new(rt.alloc()))
@@ -101,7 +110,7 @@ fn fault(faults: &mut u64) -> KeeperEnd
 /// A connection to the database, in which the table is made where there is nothing yet. Every other schema is refused,
 /// and the database stays as it is.
 fn connected<S: Honest + Drop>(rt: &HostRuntime, path: &[u8]) -> Result<Connection<S>, Error>
-    ensures { IfOk result (λ c. S.is_honest ≡ true → IsServing (state S.Store c)) }
+    ensures { IfOk result (λ c. S.is_honest ≡ true → Connects S.found (state S.Store c)) }
 {
     let mut conn = S::connect(rt, path)?;
     prepare(&mut conn)?;
@@ -114,7 +123,7 @@ fn connected<S: Honest + Drop>(rt: &HostRuntime, path: &[u8]) -> Result<Connecti
 
 /// Makes the table where there is nothing yet.
 fn prepare<S: Honest>(conn: &mut Connection<S>) -> Result<(), Error>
-    ensures { S.is_honest ≡ true → IsFound (state S.Store conn.old).now → OnOk result (AreKept ((state S.Store conn.new).now.trees 0)) }
+    ensures { S.is_honest ≡ true → IsFound S.found (state S.Store conn.old).now → OnOk result (Holds S.found (state S.Store conn.new).now) }
 {
     if !is_empty(conn.schema()) {
         return Ok(());
@@ -132,15 +141,15 @@ fn serves<S: Honest>(conn: &Connection<S>) -> bool
 
 /// Every refusal of the database but want of memory is counted.
 impl<S: Honest + Drop> Bodies for SqlBodies<S> {
-    ghost bodies = { λ b. told_by S.Store S.is_honest b.conn };
+    ghost bodies = { λ b. told_by S.Store S.is_honest S.found b.conn };
 
     ghost opened = { λ b. is_some b.conn };
 
     ghost faults = { λ b. b.faults };
 
-    ghost tells_at_first = { λ _. false };
+    ghost tells_at_first = { λ _. S.is_honest };
 
-    ghost is_told = { λ _ h. absurd (true≢false (sym h)) };
+    ghost is_told = { λ b h. is_told _ _ h };
 
     fn open(&mut self) -> Result<(), KeeperEnd> {
         if self.conn.is_some() {

@@ -5,7 +5,7 @@ ghost use Rattle.std.specs.Option.{option_to_list};
 ghost use Rattle.std.specs.FinMap.{is_sorted};
 ghost use Rattle.sqlite.specs.Held.{state};
 ghost use Rattle.sqlite.specs.Order.{bytes, column};
-ghost use Rattle.ur_bodies.specs.Bodies.{bodies_of, body_at};
+ghost use Rattle.ur_keeper_bodies.specs.Bodies.{bodies_of, body_at};
 ghost use Rattle.ur_sqlkeeper.specs.Rows.{map_in};
 ghost use Rattle.ur_sqlkeeper.specs.Entries.{Above, entry_in, body_in};
 ghost use Rattle.ur_sqlkeeper.specs.Serving.{IsOurs, IsServing, IsStill};

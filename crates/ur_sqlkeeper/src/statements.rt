@@ -2,8 +2,8 @@
 ghost use Rattle.std.specs.Prelude.{◌≡◌, [], true, Ok, IsTrue, IfOk, OnOk, codes};
 ghost use Rattle.sqlite.specs.Held.{state};
 ghost use Rattle.std.specs.FinMap.{insert, remove};
-ghost use Rattle.ur_bodies.specs.declared.bodies.BodyChange.TheVariants as change;
-ghost use Rattle.ur_bodies.specs.Bodies.{CanWriteOne};
+ghost use Rattle.ur_keeper_bodies.specs.declared.bodies.BodyChange.TheVariants as change;
+ghost use Rattle.ur_keeper_bodies.specs.Bodies.{CanWriteOne};
 ghost use Rattle.ur_sqlkeeper.specs.Table.{no_schema};
 ghost use Rattle.ur_sqlkeeper.specs.Rows.{map_in, ShowsTable, ShowsPlace};
 ghost use Rattle.ur_sqlkeeper.specs.Serving.{IsOurs, IsServing, IsStill, Makes};

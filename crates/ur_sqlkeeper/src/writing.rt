@@ -1,14 +1,14 @@
 //! Changes of bodies in one transaction.
 ghost use Rattle.std.specs.Prelude.{◌≡◌, true, false, Ok, IsTrue, IfOk, OnErr};
 ghost use Rattle.sqlite.specs.Held.{state};
-ghost use Rattle.ur_bodies.specs.Bodies.{CanWrite, CanWriteOne, written, written_one};
+ghost use Rattle.ur_keeper_bodies.specs.Bodies.{CanWrite, CanWriteOne, written, written_one};
 ghost use Rattle.ur_sqlkeeper.specs.Rows.{map_in};
 ghost use Rattle.ur_sqlkeeper.specs.Serving.{IsOurs, IsServing, IsStill, Makes};
 
 use crate::honest::Honest;
 use crate::statements::{add, put, take};
 use sqlite::{Connection, Error, Transaction};
-use ur_bodies::BodyChange;
+use ur_keeper_bodies::BodyChange;
 
 /// Makes all changes or none. It answers false where it made none, since a transaction was under way or a change was of
 /// another number of rows than one.

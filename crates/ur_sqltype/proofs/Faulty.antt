@@ -21,14 +21,14 @@ use Rattle.ur_sql.specs.declared.query.Field.TheVariants as field
 use Rattle.ur_sql.specs.declared.query.Aggregate.TheVariants as aggregate
 use Rattle.ur_sql.specs.declared.query.Bound.{Bound}
 use Rattle.ur_sql.specs.declared.query.Bound.TheVariants as bound
-use Rattle.ur_sqlexp.specs.declared.scope.Within.{Within}
-use Rattle.ur_sqlexp.specs.Expression.{Kinded, kinded, same_kind}
-use Rattle.ur_sqlexp.specs.Faults.{HasFault, Misfits, faulty, other_kind, FaultyIsNone}
-use Rattle.ur_sqltable.specs.Lists.{all_of, maybe, repeated}
+use Rattle.ur_sqltype.specs.declared.scope.Within.{Within}
+use Rattle.ur_sqltype.specs.Expression.{Kinded, kinded, same_kind}
+use Rattle.ur_sqltype.specs.Faults.{HasFault, Misfits, faulty, other_kind, FaultyIsNone}
+use Rattle.ur_sqltype.specs.Lists.{all_of, maybe, repeated}
 use Rattle.ur_sqltype.specs.Tables.{source_of, source_at, sources_of, table_at}
 use Rattle.ur_sqltype.specs.Query.{if_kind, of_kind, of_some_kind, on_of, ons_of, as_column, column_in, aggregated, ordered, int_param, limited, name_of, column_form, selected_columns, named_form, named_field, same_column, once_chosen, chosen_of, named_of, fields_with, all_fields, once_named, fields_of, field_number, Chosen, alias_fields, in_order, is_descending, begun, reads, with_on, with_filter, with_fields, with_group, with_order, with_limit, with_offset, to_filter, to_fields, to_group, to_order, to_limit, stated, once_aliased, items_of, outside, well_grouped, query_over, query_of}
-use Rattle.ur_sqltype.specs.Faults as fault
-use Rattle.ur_sqltype.specs.Faults.{IsCondition, Selects, IsColumn, IsBound, BoundBreaks, IsNoColumn, ColumnBreaks, AggregateBreaks, ItemBreaks, ChosenTwice, FieldsClash, Ungrouped, Breaks, AliasTwice, NoItem, NoSource, QueryHasFault, FaultyQueryIsNone}
+use Rattle.ur_sqltype.specs.SqltypeFaults as fault
+use Rattle.ur_sqltype.specs.SqltypeFaults.{IsCondition, Selects, IsColumn, IsBound, BoundBreaks, IsNoColumn, ColumnBreaks, AggregateBreaks, ItemBreaks, ChosenTwice, FieldsClash, Ungrouped, Breaks, AliasTwice, NoItem, NoSource, QueryHasFault, FaultyQueryIsNone}
 use Rattle.ur_sqltype.proofs.Taken.{then_none, first_none, map_none, found_none}
 use Rattle.ur_sqltype.proofs.Missing.{none_in, flat_none, one_none, if_false}
 

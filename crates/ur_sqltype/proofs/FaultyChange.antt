@@ -11,15 +11,15 @@ use Rattle.ur_values.specs.declared.schema.TableShape.{TableShape}
 use Rattle.ur_sql.specs.declared.scalar.Scalar.{Scalar}
 use Rattle.ur_sql.specs.declared.change.Action.{Action}
 use Rattle.ur_sql.specs.declared.change.Action.TheVariants as action
-use Rattle.ur_sqlexp.specs.declared.scope.Within.{Within}
-use Rattle.ur_sqlexp.specs.Scope.{column_of}
-use Rattle.ur_sqlexp.specs.Faults.{FaultyIsNone, Misfits}
-use Rattle.ur_sqltable.specs.Lists.{all_of, repeated}
+use Rattle.ur_sqltype.specs.declared.scope.Within.{Within}
+use Rattle.ur_sqltype.specs.Scope.{column_of}
+use Rattle.ur_sqltype.specs.Faults.{FaultyIsNone, Misfits}
+use Rattle.ur_sqltype.specs.Lists.{all_of, repeated}
 use Rattle.ur_sqltype.specs.Tables.{table_at}
 use Rattle.ur_sqltype.specs.Query.{of_kind}
 use Rattle.ur_sqltype.specs.Change.{within_insert, within_row, set_of, set_at, set_number, paired, assigned, once_set, sets_of, inserting, complete_of, insert_of, condition_of, updating, action_of, target_of, change_with, change_at, change_of}
-use Rattle.ur_sqltype.specs.Faults as fault
-use Rattle.ur_sqltype.specs.Faults.{Sets, ConditionOf, SetBreaks, SetsBreak, InsertBreaks, ActBreaks, ChangeHasFault, FaultyChangeIsNone}
+use Rattle.ur_sqltype.specs.SqltypeFaults as fault
+use Rattle.ur_sqltype.specs.SqltypeFaults.{Sets, ConditionOf, SetBreaks, SetsBreak, InsertBreaks, ActBreaks, ChangeHasFault, FaultyChangeIsNone}
 use Rattle.ur_sqltype.proofs.Taken.{then_none, first_none, map_none, found_none}
 use Rattle.ur_sqltype.proofs.Missing.{none_in, if_none_then, if_false}
 use Rattle.ur_sqltype.proofs.Faulty.{kind_none}

@@ -1,142 +1,223 @@
--- The core of a query fits its tables.
-use Rattle.std.proofs.Common.{◌≡◌, ◌∙◌, refl, sym, ap, ap₂, subst, ℕ, ◌+◌, List, [], ◌∷◌, ◌++◌, drop, map, Some, inl}
-use Rattle.std.specs.Option.{is_some}
-use Rattle.std.specs.Prelude.{nat_lt, IsSome, IfSome, All, slice_get, slice_index_or}
-use Rattle.std.specs.List.{AllByRecursion}
-use Rattle.std.proofs.lemmas.List.Elements.{All-from_recursion}
-use Rattle.ur_base.specs.declared.names.Name.{Name}
-use Rattle.ur_syntax.specs.declared.sql.Aggregate.{Aggregate as WrittenAggregate}
-use Rattle.ur_syntax.specs.declared.sql.Aggregate.TheVariants as written
-use Rattle.ur_syntax.specs.declared.sql.Selected.{Selected}
-use Rattle.ur_syntax.specs.declared.sql.Selected.TheVariants as selected
-use Rattle.ur_syntax.specs.declared.sql.Selection.{Selection}
-use Rattle.ur_syntax.specs.declared.sql.Selection.TheVariants as selection
-use Rattle.ur_syntax.specs.declared.sql.FromItem.{FromItem}
-use Rattle.ur_syntax.specs.declared.sql.OrderKey.{OrderKey as WrittenKey}
+-- What an expression stands for has its kind in the core.
+use Rattle.std.proofs.lemmas.Bool.Decides.{nat_tests}
+use Rattle.std.proofs.lemmas.Str.{IsUtf8-from_is_utf8}
+use Rattle.std.proofs.lemmas.Int.{ints}
+use Rattle.std.proofs.Common.{arith, ◌≡◌, ◌∙◌, refl, sym, ap, subst, Bool, true, false, true≢false, Option, Some, None, List, [], ◌∷◌, ℕ, zero, suc, ◌+◌, ◌<◌, map, inl, inr}
+use Rattle.std.specs.Prelude.{◌⊎◌, ◌^◌, nat_lt, pos, if◌then◌else◌, option_map, option_and_then, slice_get, slice_index_or, bytes_eq}
+use Rattle.std.specs.Str.{is_utf8}
+use denote.Hole.Carrier
+use Rattle.ur_syntax.specs.declared.sql.SqlForm.{end_of-SqlExp as alone, more_of-SqlExp as its}
+use Rattle.ur_syntax.specs.declared.sql.SqlForm.TheVariants as form
+use Rattle.ur_values.specs.Values.{IsInt}
 use Rattle.ur_values.specs.declared.schema.ColumnKind.{ColumnKind}
 use Rattle.ur_values.specs.declared.schema.ColumnKind.TheVariants as kind
-use Rattle.ur_values.specs.declared.schema.Schema.{Schema}
-use Rattle.ur_values.specs.Store.{kinds_of}
+use Rattle.ur_values.specs.declared.value.Value.TheVariants as value
 use Rattle.ur_sql.specs.declared.scalar.Scalar.{Scalar}
-use Rattle.ur_sql.specs.declared.query.Item.{Item}
-use Rattle.ur_sql.specs.declared.query.ColumnAt.{ColumnAt}
-use Rattle.ur_sql.specs.declared.query.Field.{Field}
-use Rattle.ur_sql.specs.declared.query.Field.TheVariants as field
-use Rattle.ur_sql.specs.declared.query.Aggregate.{Aggregate}
-use Rattle.ur_sql.specs.declared.query.Aggregate.TheVariants as aggregate
-use Rattle.ur_sql.specs.declared.query.OrderKey.{OrderKey}
-use Rattle.ur_sql.specs.Typing.{Kinds, column_kind, HasKind, HasSomeKind, AreConditions, MayBeCondition, AggregateFits, FieldFits, BoundFits, kinds_in}
-use Rattle.ur_sqlexp.specs.declared.scope.Source.{Source}
-use Rattle.ur_sqlexp.specs.declared.scope.Within.{Within}
-use Rattle.ur_sqlexp.specs.Fits.{kinds_of_source, kinds_within, BareStand, KindedFits}
-use Rattle.ur_sqltype.specs.Tables.{source_of, source_at, table_at}
-use Rattle.ur_sqltype.specs.Query.{of_kind, of_some_kind, ons_of, column_in, aggregated, is_descending, ordered, limited, name_of, Chosen, is_chosen, columns_from, alias_field, alias_fields, named_items, named_field, named_of, field_number, with_field, in_order_on, item_of, reads}
-use Rattle.ur_sqltype.specs.Fits.{QueryOfFits}
-use Rattle.ur_sqltype.proofs.Lists.{some_is, none_is}
-use Rattle.ur_sqltype.proofs.Taken.{map_taken}
-use Rattle.ur_sqltype.proofs.Values.{all_values, maybe_value, of_map, of_both, of_choice, stands_at, or_is}
-use Rattle.ur_sqltype.proofs.Kinding.{has_kind, some_kind, column_there, bound_fits, table_there}
-use Rattle.ur_sqltype.proofs.Grouping.{fields_read, order_reads}
-use Rattle.ur_sqltype.proofs.Whole.{FieldsTaken, fields_taken, query_taken}
+use Rattle.ur_sql.specs.declared.scalar.Scalar.TheVariants as scalar
+use Rattle.ur_sql.specs.declared.scalar.Scalar.TheBlock as block
+use Rattle.ur_sql.specs.declared.scalar.Comparison.{Comparison}
+use Rattle.ur_sql.specs.declared.scalar.Comparison.TheVariants as compare
+use Rattle.ur_sql.specs.Typing.{Kinds, HasKind, Compares, column_kind}
+use Rattle.ur_sqltype.specs.declared.operators.Join.{Join}
+use Rattle.ur_sqltype.specs.declared.operators.Join.TheVariants as join
+use Rattle.ur_sqltype.specs.declared.operators.Operator.{Operator}
+use Rattle.ur_sqltype.specs.declared.operators.Operator.TheVariants as does
+use Rattle.ur_sqltype.specs.declared.scope.Source.{Source}
+use Rattle.ur_sqltype.specs.declared.scope.Within.{Within}
+use Rattle.ur_sqltype.specs.Scope.{named_from, column_of, column_at}
+use Rattle.ur_sqltype.specs.Expression.{Kinded, kinded, same_kind, may_compare, side_kind, join_of, joined, compared, operated, operator_of, on_both, one_is, column_scalar, bare_scalar, int_scalar, text_scalar}
+use Rattle.ur_sqltype.specs.Fits.{kinds_of_source, kinds_within, first_columns, BareStand, KindedFits}
 
--- ---- fields in order
+-- ---- tests
 
-with_kept : (P : Field → Type 0) (f : Field) (fs : List Field) → P f → AllByRecursion P fs → AllByRecursion P (with_field f fs)
-with_kept P f [] p h = (p, tt)
-with_kept P f (g ∷ rest) p h = of_choice P (nat_lt (field_number g) (field_number f)) (g ∷ with_field f rest) (f ∷ g ∷ rest) (h.0, with_kept P f rest p h.1) (p, h)
+same_is : (j k : ColumnKind) → same_kind j k ≡ true → j ≡ k
+same_is kind.Int kind.Int e = refl
+same_is kind.Int kind.Str e = absurd (true≢false (sym e))
+same_is kind.Int kind.Bool e = absurd (true≢false (sym e))
+same_is kind.Str kind.Int e = absurd (true≢false (sym e))
+same_is kind.Str kind.Str e = refl
+same_is kind.Str kind.Bool e = absurd (true≢false (sym e))
+same_is kind.Bool kind.Int e = absurd (true≢false (sym e))
+same_is kind.Bool kind.Str e = absurd (true≢false (sym e))
+same_is kind.Bool kind.Bool e = refl
 
-order_kept : (P : Field → Type 0) (fs done : List Field) → AllByRecursion P fs → AllByRecursion P done → AllByRecursion P (in_order_on fs done)
-order_kept P [] done h k = k
-order_kept P (f ∷ fs) done h k = with_kept P f (in_order_on fs done) h.0 (order_kept P fs done h.1 k)
+none_is : {A : Type 0} {x : A} {C : Type 0} → None ≡ Some x → C
+none_is e = absurd (cc)
 
--- ---- the columns of aliases
+some_is : {A : Type 0} {x y : A} → Some x ≡ Some y → x ≡ y
+some_is e = cc
 
-columns_fit : (names : List (List ℕ)) (chosen : Chosen) (ks : Kinds) (i c : ℕ) (columns : List (List ℕ × ColumnKind)) → drop c (slice_index_or ks.items i []) ≡ map (λ c. c.1) columns →
-    AllByRecursion (λ (n : Name × ColumnAt). IsSome (column_kind ks n.1.item n.1.column)) (columns_from names chosen i c columns)
-columns_fit names chosen ks i c [] h = tt
-columns_fit names chosen ks i c (a ∷ rest) h =
-    let t = stands_at (slice_index_or ks.items i []) c a.1 (map (λ c. c.1) rest) h in
-    let more = columns_fit names chosen ks i (c + 1) rest t.1 in
-    of_choice (λ (n : Name × ColumnAt). IsSome (column_kind ks n.1.item n.1.column)) (is_chosen chosen i c) ((name_of names a.0, record { item = i; column = c }) ∷ columns_from names chosen i (c + 1) rest)
-    (columns_from names chosen i (c + 1) rest) (ap (λ o. is_some o) t.0, more) more
+one_test : (b : Bool) (s x : Kinded) → (if b then Some s else None) ≡ Some x → (b ≡ true) × (s ≡ x)
+one_test true s x e = (refl, some_is e)
+one_test false s x e = none_is e
 
-alias_fits : (ks : Kinds) (n : Name) (cs : List (Name × ColumnAt)) → AllByRecursion (λ (n : Name × ColumnAt). IsSome (column_kind ks n.1.item n.1.column)) cs → AllByRecursion (FieldFits ks) (alias_field n cs)
-alias_fits ks n [] h = tt
-alias_fits ks n (c ∷ cs) h = (All-from_recursion (λ (n : Name × ColumnAt). IsSome (column_kind ks n.1.item n.1.column)) (c ∷ cs) h, tt)
+two_tests : (a b : Bool) (s x : Kinded) → (if a then (if b then Some s else None) else None) ≡ Some x → (a ≡ true) × (b ≡ true) × (s ≡ x)
+two_tests true true s x e = (refl, refl, some_is e)
+two_tests true false s x e = none_is e
+two_tests false b s x e = none_is e
 
-aliases_fit : (names : List (List ℕ)) (chosen : Chosen) (ks : Kinds) (i : ℕ) (sources : List Source) → drop i ks.items ≡ map kinds_of_source sources → AllByRecursion (FieldFits ks) (alias_fields names chosen i sources)
-aliases_fit names chosen ks i [] h = tt
-aliases_fit names chosen ks i (s ∷ rest) h =
-    let t = stands_at ks.items i (kinds_of_source s) (map kinds_of_source rest) h in
-    of_both (FieldFits ks) (alias_field (name_of names s.alias) (columns_from names chosen i 0 s.columns)) (alias_fields names chosen (i + 1) rest)
-    (alias_fits ks (name_of names s.alias) (columns_from names chosen i 0 s.columns) (columns_fit names chosen ks i 0 s.columns (or_is ks.items i [] (kinds_of_source s) t.0)))
-    (aliases_fit names chosen ks (i + 1) rest t.1)
+-- a kind carried over
+has : (ks : Kinds) (x y : Kinded) → x ≡ y → HasKind ks x.0 x.1 → HasKind ks y.0 y.1
+has ks x y e h = subst (λ z. HasKind ks z.0 z.1) e h
 
--- ---- what has an AS name
+-- ---- operators
 
-module _ (fits : KindedFits) (w : Within) (bare : BareStand w) where
-  aggregate_fits : (g : WrittenAggregate) (a : Aggregate) → aggregated w g ≡ Some a → AggregateFits (kinds_within w) a
-  aggregate_fits written.Count a e = subst (AggregateFits (kinds_within w)) (some_is e) tt
-  aggregate_fits (written.Sum x) a e = let m = map_taken aggregate.Sum (of_kind kind.Int w x) a e in subst (AggregateFits (kinds_within w)) m.2 (has_kind fits w bare kind.Int x m.0 m.1)
-  aggregate_fits (written.Min x) a e = let m = map_taken aggregate.Min (of_some_kind w x) a e in subst (AggregateFits (kinds_within w)) m.2 (some_kind fits w bare x m.0 m.1)
-  aggregate_fits (written.Max x) a e = let m = map_taken aggregate.Max (of_some_kind w x) a e in subst (AggregateFits (kinds_within w)) m.2 (some_kind fits w bare x m.0 m.1)
+join_has : (ks : Kinds) (j : Join) (x y : Scalar) → HasKind ks x (side_kind j) → HasKind ks y (side_kind j) → HasKind ks (join_of j x y) (side_kind j)
+unfolding block.hidden-the_row-Scalar-0 Carrier.hidden
+join_has ks join.Or x y h i = (refl, h, i)
+join_has ks join.And x y h i = (refl, h, i)
+join_has ks join.Add x y h i = (refl, h, i)
+join_has ks join.Sub x y h i = (refl, h, i)
+join_has ks join.Mul x y h i = (refl, h, i)
 
-  named_fits : (names : List (List ℕ)) (s : Selected) (f : Field) → named_field names w s ≡ Some f → FieldFits (kinds_within w) f
-  named_fits names (selected.Column x) f e = none_is e
-  named_fits names (selected.Named x a) f e = let m = map_taken (field.Single (name_of names a)) (of_some_kind w x) f e in subst (FieldFits (kinds_within w)) m.2 (some_kind fits w bare x m.0 m.1)
-  named_fits names (selected.Aggregate p g a) f e = let m = map_taken (field.Over (name_of names a)) (aggregated w g) f e in subst (FieldFits (kinds_within w)) m.2 (aggregate_fits g m.0 m.1)
+may : (c : Comparison) (k : ColumnKind) → may_compare c k ≡ true → Compares c k
+may compare.Equal k e = tt
+may compare.Unequal k e = tt
+may compare.Less k e = λ is. true≢false (sym e ∙ ap (may_compare compare.Less) is)
+may compare.LessEqual k e = λ is. true≢false (sym e ∙ ap (may_compare compare.LessEqual) is)
+may compare.Greater k e = λ is. true≢false (sym e ∙ ap (may_compare compare.Greater) is)
+may compare.GreaterEqual k e = λ is. true≢false (sym e ∙ ap (may_compare compare.GreaterEqual) is)
 
-  all_named_fit : (names : List (List ℕ)) (s : Selection) (fs : List Field) → named_of names w s ≡ Some fs → AllByRecursion (FieldFits (kinds_within w)) fs
-  all_named_fit names selection.All fs e = subst (AllByRecursion (FieldFits (kinds_within w))) (some_is e) tt
-  all_named_fit names (selection.Items items) fs e = all_values (named_field names w) (FieldFits (kinds_within w)) (named_fits names) (named_items items) fs e
+compare_has : (ks : Kinds) (c : Comparison) (k : ColumnKind) (x y : Scalar) → HasKind ks x k → HasKind ks y k → Compares c k → HasKind ks (scalar.Compare c x y) kind.Bool
+unfolding block.hidden-the_row-Scalar-0 Carrier.hidden
+compare_has ks c k x y h i m = (refl, (k, h, i, m))
 
-  fields_fit : (names : List (List ℕ)) (s : Selection) (fs : List Field) → FieldsTaken names w s fs → All (FieldFits (kinds_within w)) fs
-  fields_fit names s fs g =
-      All-from_recursion (FieldFits (kinds_within w)) fs (subst (AllByRecursion (FieldFits (kinds_within w))) (sym g.all)
-      (order_kept (FieldFits (kinds_within w)) (alias_fields names g.chosen 0 w.sources ++ g.named) []
-      (of_both (FieldFits (kinds_within w)) (alias_fields names g.chosen 0 w.sources) g.named (aliases_fit names g.chosen (kinds_within w) 0 w.sources refl) (all_named_fit names s g.named g.others)) tt))
+not_has : (ks : Kinds) (x : Scalar) → HasKind ks x kind.Bool → HasKind ks (scalar.Not x) kind.Bool
+unfolding block.hidden-the_row-Scalar-0 Carrier.hidden
+not_has ks x h = (refl, h)
 
-  key_fits : (k : WrittenKey) (o : OrderKey) → ordered w k ≡ Some o → HasSomeKind (kinds_within w) o.by
-  key_fits k o e =
-      let m = map_taken (λ (x : Scalar). let z : OrderKey = record { by = x; descending = is_descending k.direction } in z) (of_some_kind w k.key) o e in
-      subst (λ (z : OrderKey). HasSomeKind (kinds_within w) z.by) m.2 (some_kind fits w bare k.key m.0 m.1)
+neg_has : (ks : Kinds) (x : Scalar) → HasKind ks x kind.Int → HasKind ks (scalar.Neg x) kind.Int
+unfolding block.hidden-the_row-Scalar-0 Carrier.hidden
+neg_has ks x h = (refl, h)
 
--- ---- tables
+joined_has : (ks : Kinds) (j : Join) (u v o : Kinded) → joined j u v ≡ Some o → HasKind ks u.0 u.1 → HasKind ks v.0 v.1 → HasKind ks o.0 o.1
+joined_has ks j u v o e h i =
+    let t = two_tests (same_kind u.1 (side_kind j)) (same_kind v.1 (side_kind j)) (join_of j u.0 v.0, side_kind j) o e in
+    has ks (join_of j u.0 v.0, side_kind j) o t.2 (join_has ks j u.0 v.0 (subst (HasKind ks u.0) (same_is u.1 (side_kind j) t.0) h) (subst (HasKind ks v.0) (same_is v.1 (side_kind j) t.1) i))
 
-source_there : (m : List ℕ) (tables : Schema) (i : FromItem) (s : Source) → source_at m tables i ≡ Some s → slice_get (map kinds_of tables.tables) s.table ≡ Some (map (λ c. c.1) s.columns)
-source_there m tables i s e =
-    let t = map_taken (source_of i) (table_at m tables i.table) s e in
-    subst (λ (z : Source). slice_get (map kinds_of tables.tables) z.table ≡ Some (map (λ c. c.1) z.columns)) t.2 (table_there m tables i.table t.0 t.1)
+compared_has : (ks : Kinds) (c : Comparison) (u v o : Kinded) → compared c u v ≡ Some o → HasKind ks u.0 u.1 → HasKind ks v.0 v.1 → HasKind ks o.0 o.1
+compared_has ks c u v o e h i =
+    let t = two_tests (may_compare c u.1) (same_kind v.1 u.1) (scalar.Compare c u.0 v.0, kind.Bool) o e in
+    has ks (scalar.Compare c u.0 v.0, kind.Bool) o t.2 (compare_has ks c u.1 u.0 v.0 h (subst (HasKind ks v.0) (same_is v.1 u.1 t.1) i) (may c u.1 t.0))
 
-read_alike : (ss : List Source) → map kinds_of_source ss ≡ map (λ (i : Item). i.columns) (map item_of ss)
-read_alike [] = refl
-read_alike (s ∷ ss) = ap (λ z. kinds_of_source s ∷ z) (read_alike ss)
+operated_has : (ks : Kinds) (f : Operator) (u v o : Kinded) → operated f u v ≡ Some o → HasKind ks u.0 u.1 → HasKind ks v.0 v.1 → HasKind ks o.0 o.1
+operated_has ks (does.Joins j) u v o e h i = joined_has ks j u v o e h i
+operated_has ks (does.Compares c) u v o e h i = compared_has ks c u v o e h i
 
-pub query_fits : KindedFits → QueryOfFits
-query_fits fits m tables names antiquotes q core e =
-    let t = query_taken m tables names antiquotes q core e in
-    let w : Within = reads t.sources antiquotes in
-    let p = t.parts in
-    let alike : kinds_within w ≡ kinds_in core =
-    ap₂ (λ (params : List ColumnKind) (items : List (List ColumnKind)). let ks : Kinds = record { params = params; items = items } in ks) p.front.params (read_alike t.sources ∙ ap (λ (is : List Item). map (λ (i : Item). i.columns) is) p.front.items) in
-    let there : AllByRecursion (λ (i : Item). slice_get (map kinds_of tables.tables) i.table ≡ Some i.columns) (map item_of t.sources) =
-    of_map item_of (λ (i : Item). slice_get (map kinds_of tables.tables) i.table ≡ Some i.columns) t.sources
-    (all_values (source_at m tables) (λ (s : Source). slice_get (map kinds_of tables.tables) s.table ≡ Some (map (λ c. c.1) s.columns)) (source_there m tables) q.«from» t.sources t.items.are) in
-    record {
-      tables = All-from_recursion (λ (i : Item). slice_get (map kinds_of tables.tables) i.table ≡ Some i.columns) core.«from»
-          (subst (AllByRecursion (λ (i : Item). slice_get (map kinds_of tables.tables) i.table ≡ Some i.columns)) p.front.items there);
-      typed = record {
-        on = subst (λ ks. AreConditions ks core.on) alike (All-from_recursion (λ x. HasKind (kinds_within w) x kind.Bool) core.on
-            (all_values (of_kind kind.Bool w) (λ x. HasKind (kinds_within w) x kind.Bool) (has_kind fits w (inl refl) kind.Bool) (ons_of q.«from») core.on p.front.on));
-        filter = subst (λ ks. MayBeCondition ks core.filter) alike (maybe_value (of_kind kind.Bool w) (λ x. HasKind (kinds_within w) x kind.Bool) (has_kind fits w (inl refl) kind.Bool) q.filter core.filter p.front.filter);
-        fields = subst (λ ks. All (FieldFits ks) core.fields) alike (fields_fit fits w (inl refl) names q.selection core.fields (fields_taken names w q.selection core.fields p.front.fields));
-        group = subst (λ ks. All (λ at. IsSome (column_kind ks at.item at.column)) core.group) alike (All-from_recursion (λ (at : ColumnAt). IsSome (column_kind (kinds_within w) at.item at.column)) core.group
-            (all_values (column_in w) (λ (at : ColumnAt). IsSome (column_kind (kinds_within w) at.item at.column)) (column_there fits w (inl refl)) q.group core.group p.group));
-        order = subst (λ ks. All (λ k. HasSomeKind ks k.by) core.order) alike (All-from_recursion (λ (k : OrderKey). HasSomeKind (kinds_within w) k.by) core.order
-            (all_values (ordered w) (λ (k : OrderKey). HasSomeKind (kinds_within w) k.by) (key_fits fits w (inl refl)) q.order core.order p.order));
-        limit = subst (λ ps. IfSome core.limit (BoundFits ps)) p.front.params (maybe_value (limited w) (BoundFits w.antiquotes) (bound_fits w) q.limit core.limit p.limit);
-        offset = subst (λ ps. IfSome core.offset (BoundFits ps)) p.front.params (maybe_value (limited w) (BoundFits w.antiquotes) (bound_fits w) q.offset core.offset p.offset);
-        grouped_fields = λ h. fields_read core h t.grouped;
-        grouped_order = λ h. order_reads core h t.grouped;
-      };
-    }
+-- what is known of a part that stands for something
+abbrev Known : Kinds → Option Kinded → Type 0
+Known ks m = (x : Scalar) (k : ColumnKind) → m ≡ Some (x, k) → HasKind ks x k
+
+both_have : (ks : Kinds) (f : Operator) (m n : Option Kinded) (o : Kinded) → on_both (operated f) m n ≡ Some o → Known ks m → Known ks n → HasKind ks o.0 o.1
+both_have ks f None n o e g h = none_is e
+both_have ks f (Some u) None o e g h = none_is e
+both_have ks f (Some u) (Some v) o e g h = operated_has ks f u v o e (g u.0 u.1 refl) (h v.0 v.1 refl)
+
+one_has : (ks : Kinds) (k : ColumnKind) (f : Scalar → Scalar) (m : Option Kinded) (o : Kinded) → ((x : Scalar) → HasKind ks x k → HasKind ks (f x) k) → option_and_then (one_is k f) m ≡ Some o → Known ks m → HasKind ks o.0 o.1
+one_has ks k f None o r e g = none_is e
+one_has ks k f (Some u) o r e g =
+    let t = one_test (same_kind u.1 k) (f u.0, k) o e in
+    has ks (f u.0, k) o t.1 (r u.0 (subst (HasKind ks u.0) (same_is u.1 k t.0) (g u.0 u.1 refl)))
+
+-- ---- columns
+
+-- what is found from one number on stands so far behind it
+abbrev Stands : {A B : Type 0} → (A → B) → List A → ℕ → (ℕ × B) → Type 0
+Stands of list i found = (j : ℕ) × (found.0 ≡ i + j) × (slice_get (map of list) j ≡ Some found.1)
+
+found_stands : {A B : Type 0} (name : A → List ℕ) (of : A → B) (x : List ℕ) (list : List A) (i : ℕ) (found : ℕ × B) → named_from name of x i list ≡ Some found → Stands of list i found
+found_stands name of x [] i found e = none_is e
+found_stands name of x (a ∷ rest) i found e = by (bytes_eq (name a) x) (found_stands name of x rest (i + 1) found) e
+  where
+    by : (b : Bool) → (named_from name of x (i + 1) rest ≡ Some found → Stands of rest (i + 1) found) → (if b then Some (i, of a) else named_from name of x (i + 1) rest) ≡ Some found → Stands of (a ∷ rest) i found
+    by true further h = let s : (i, of a) ≡ found = some_is h in (0, sym (ap (λ z. z.0) s) ∙ omega arith, ap (λ z. Some z.1) s)
+    by false further h = let r = further h in let q : found.0 ≡ i + 1 + r.0 = r.1 in (suc r.0, omega (arith, q), r.2)
+
+from_zero : {A B : Type 0} (of : A → B) (list : List A) (found : ℕ × B) → Stands of list 0 found → slice_get (map of list) found.0 ≡ Some found.1
+from_zero of list found s = let q : found.0 ≡ 0 + s.0 = s.1 in let r : found.0 ≡ s.0 = omega (arith, q) in ap (λ n. slice_get (map of list) n) r ∙ s.2
+
+column_stands : (a : List ℕ) (columns : List (List ℕ × ColumnKind)) (found : ℕ × ColumnKind) → column_of a columns ≡ Some found → slice_get (map (λ c. c.1) columns) found.0 ≡ Some found.1
+column_stands a columns found e = from_zero (λ c. c.1) columns found (found_stands (λ c. c.0) (λ c. c.1) a columns 0 found e)
+
+-- the kinds of an item that is there
+item_kinds : (sources : List Source) (i : ℕ) (columns : List (List ℕ × ColumnKind)) → slice_get (map (λ s. s.columns) sources) i ≡ Some columns → slice_index_or (map kinds_of_source sources) i [] ≡ map (λ c. c.1) columns
+item_kinds [] i columns e = none_is (sym (ap (λ z. z) (sym e)))
+item_kinds (s ∷ rest) zero columns e = ap (map (λ c. c.1)) (some_is e)
+item_kinds (s ∷ rest) (suc i) columns e = item_kinds rest i columns e
+
+qualified_has : (w : Within) (q a : List ℕ) (o : Kinded) → option_map column_scalar (column_at q a w.sources) ≡ Some o → HasKind (kinds_within w) o.0 o.1
+qualified_has w q a o e = at (column_at q a w.sources) refl e
+  where
+    inside : (m : Option (ℕ × List (List ℕ × ColumnKind))) (found : ℕ × (ℕ × ColumnKind)) → option_and_then (λ s. option_map (λ c. (s.0, c)) (column_of a s.1)) m ≡ Some found
+        → (s : ℕ × List (List ℕ × ColumnKind)) × (m ≡ Some s) × (option_map (λ c. (s.0, c)) (column_of a s.1) ≡ Some found)
+    inside None found h = none_is h
+    inside (Some s) found h = (s, refl, h)
+
+    column : (s : ℕ × List (List ℕ × ColumnKind)) (m : Option (ℕ × ColumnKind)) (found : ℕ × (ℕ × ColumnKind)) → option_map (λ c. (s.0, c)) m ≡ Some found → (s.0 ≡ found.0) × (m ≡ Some found.1)
+    column s None found h = none_is h
+    column s (Some c) found h = (ap (λ z. z.0) (some_is h), ap (λ z. Some z.1) (some_is h))
+
+    at : (m : Option (ℕ × (ℕ × ColumnKind))) → column_at q a w.sources ≡ m → option_map column_scalar m ≡ Some o → HasKind (kinds_within w) o.0 o.1
+    at None f h = none_is h
+    at (Some found) f h =
+        let s = inside _ found f in
+        let c = column s.0 (column_of a s.0.1) found s.2 in
+        let item = from_zero (λ z. z.columns) w.sources s.0 (found_stands (λ z. z.alias) (λ z. z.columns) _ w.sources 0 s.0 s.1) in
+        let kinds = item_kinds w.sources found.0 s.0.1 (ap (λ n. slice_get (map (λ z. z.columns) w.sources) n) (sym c.0) ∙ item) in
+        has (kinds_within w) (scalar.Column found.0 found.1.0, found.1.1) o (some_is h) (ap (λ ks. slice_get ks found.1.0) kinds ∙ column_stands a s.0.1 found.1 c.1)
+
+bare_has : (w : Within) → BareStand w → (a : List ℕ) (o : Kinded) → option_map bare_scalar (column_of a w.bare) ≡ Some o → HasKind (kinds_within w) o.0 o.1
+bare_has w b a o e = at (column_of a w.bare) refl e
+  where
+    first : (sources : List Source) (found : ℕ × ColumnKind) → column_of a (first_columns sources) ≡ Some found → slice_get (slice_index_or (map kinds_of_source sources) 0 []) found.0 ≡ Some found.1
+    first [] found h = none_is h
+    first (s ∷ rest) found h = column_stands a s.columns found h
+
+    stands : (found : ℕ × ColumnKind) → column_of a w.bare ≡ Some found → (w.bare ≡ []) ⊎ (w.bare ≡ first_columns w.sources) → column_kind (kinds_within w) 0 found.0 ≡ Some found.1
+    stands found f (inl none) = none_is (sym (ap (column_of a) none) ∙ f)
+    stands found f (inr is) = first w.sources found (sym (ap (column_of a) is) ∙ f)
+
+    at : (m : Option (ℕ × ColumnKind)) → column_of a w.bare ≡ m → option_map bare_scalar m ≡ Some o → HasKind (kinds_within w) o.0 o.1
+    at None f h = none_is h
+    at (Some found) f h = has (kinds_within w) (scalar.Column 0 found.0, found.1) o (some_is h) (stands found f b)
+
+-- ---- expressions without parts
+
+param_has : (ks : Kinds) (n : ℕ) (o : Kinded) → option_map (λ k. (scalar.Param n, k)) (slice_get ks.params n) ≡ Some o → HasKind ks o.0 o.1
+param_has ks n o e = at (slice_get ks.params n) refl e
+  where
+    at : (m : Option ColumnKind) → slice_get ks.params n ≡ m → option_map (λ k. (scalar.Param n, k)) m ≡ Some o → HasKind ks o.0 o.1
+    at None f h = none_is h
+    at (Some k) f h = has ks (scalar.Param n, k) o (some_is h) f
+
+is_int : (n : ℕ) → nat_lt n (2 ^ 63) ≡ true → IsInt (pos n)
+is_int n e = let below : n < 2 ^ 63 = grind (arith, nat_tests, e) in (omega (arith, ints, below), omega (arith, ints, below))
+
+int_has : (ks : Kinds) (n : ℕ) (o : Kinded) → int_scalar n ≡ Some o → HasKind ks o.0 o.1
+int_has ks n o e =
+    let t = one_test (nat_lt n (2 ^ 63)) (scalar.Constant (value.Int (pos n)), kind.Int) o e in
+    has ks (scalar.Constant (value.Int (pos n)), kind.Int) o t.1 (is_int n t.0)
+
+text_has : (ks : Kinds) (s : List ℕ) (o : Kinded) → text_scalar s ≡ Some o → HasKind ks o.0 o.1
+text_has ks s o e =
+    let t = one_test (is_utf8 s) (scalar.Constant (value.Str s), kind.Str) o e in
+    has ks (scalar.Constant (value.Str s), kind.Str) o t.1 (IsUtf8-from_is_utf8 s t.0)
+
+-- ---- expressions
+
+pub fits : KindedFits
+unfolding kinded
+fits w b (form.Int n) x k e = int_has (kinds_within w) n (x, k) e
+fits w b (form.Str s) x k e = text_has (kinds_within w) s (x, k) e
+fits w b form.True x k e = has (kinds_within w) (scalar.Constant (value.Bool true), kind.Bool) (x, k) (some_is e) tt
+fits w b form.False x k e = has (kinds_within w) (scalar.Constant (value.Bool false), kind.Bool) (x, k) (some_is e) tt
+fits w b form.Null x k e = none_is e
+fits w b (form.Qualified q a) x k e = qualified_has w q a (x, k) e
+fits w b (form.Column a) x k e = bare_has w b a (x, k) e
+fits w b (form.Anti n) x k e = param_has (kinds_within w) n (x, k) e
+fits w b (form.Binary' o _ (its p a alone) _ (its q c alone)) x k e = both_have (kinds_within w) (operator_of o) (kinded w a) (kinded w c) (x, k) e (fits w b a) (fits w b c)
+fits w b (form.Not' _ (its p a alone)) x k e = one_has (kinds_within w) kind.Bool scalar.Not (kinded w a) (x, k) (not_has (kinds_within w)) e (fits w b a)
+fits w b (form.Negative' _ (its p a alone)) x k e = one_has (kinds_within w) kind.Int scalar.Neg (kinded w a) (x, k) (neg_has (kinds_within w)) e (fits w b a)
+fits w b (form.IsNull' _ a) x k e = none_is e
+fits w b (form.IsNotNull' _ a) x k e = none_is e
+fits w b (form.Some' _ a) x k e = none_is e

@@ -16,17 +16,17 @@ use Rattle.ur_sql.specs.declared.scalar.Scalar.{Scalar}
 use Rattle.ur_sql.specs.declared.change.Action.{Action}
 use Rattle.ur_sql.specs.declared.change.Action.TheVariants as action
 use Rattle.ur_sql.specs.Typing.{HasKind, SetsFit, ActionFits, ChangeFits}
-use Rattle.ur_sqlexp.specs.declared.scope.Within.{Within}
-use Rattle.ur_sqlexp.specs.Scope.{column_of}
-use Rattle.ur_sqlexp.specs.Fits.{kinds_within, BareStand, KindedFits}
-use Rattle.ur_sqltable.specs.Lists.{all_of, repeated}
-use Rattle.ur_sqltable.proofs.Once.{distinct}
+use Rattle.ur_sqltype.specs.declared.scope.Within.{Within}
+use Rattle.ur_sqltype.specs.Scope.{column_of}
+use Rattle.ur_sqltype.specs.Fits.{kinds_within, BareStand, KindedFits}
+use Rattle.ur_sqltype.specs.Lists.{all_of, repeated}
+use Rattle.ur_sqltype.proofs.Once.{distinct}
 use Rattle.ur_sqltype.specs.Tables.{table_at}
 use Rattle.ur_sqltype.specs.Query.{of_kind}
 use Rattle.ur_sqltype.specs.Change.{within_insert, within_row, set_of, set_at, set_number, paired, assigned, once_set, sets_of, inserting, complete_of, insert_of, condition_of, updating, action_of, target_of, change_with, change_at, change_of, SetsWell, IsChange, StatedIsChange}
-use Rattle.ur_sqltype.specs.Fits.{ChangeOfFits}
+use Rattle.ur_sqltype.specs.SqltypeFits.{ChangeOfFits}
 use Rattle.ur_sqltype.proofs.Taken.{then_taken, map_taken, none_taken}
-use Rattle.ur_sqltype.proofs.Values.{if_taken, if_so, all_values, maybe_value, all_length}
+use Rattle.ur_sqltype.proofs.SqltypeValues.{if_taken, if_so, all_values, maybe_value, all_length}
 use Rattle.ur_sqltype.proofs.Kinding.{has_kind, column_at_place, table_there}
 
 -- what is set, taken apart

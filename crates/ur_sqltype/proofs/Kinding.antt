@@ -19,15 +19,15 @@ use Rattle.ur_sql.specs.declared.query.ColumnAt.{ColumnAt}
 use Rattle.ur_sql.specs.declared.query.Bound.{Bound}
 use Rattle.ur_sql.specs.declared.query.Bound.TheVariants as bound
 use Rattle.ur_sql.specs.Typing.{Kinds, column_kind, HasKind, HasSomeKind, BoundFits}
-use Rattle.ur_sqlexp.specs.declared.scope.Within.{Within}
-use Rattle.ur_sqlexp.specs.Scope.{column_of}
-use Rattle.ur_sqlexp.specs.Expression.{Kinded, kinded, same_kind}
-use Rattle.ur_sqlexp.specs.Fits.{kinds_within, BareStand, KindedFits}
+use Rattle.ur_sqltype.specs.declared.scope.Within.{Within}
+use Rattle.ur_sqltype.specs.Scope.{column_of}
+use Rattle.ur_sqltype.specs.Expression.{Kinded, kinded, same_kind}
+use Rattle.ur_sqltype.specs.Fits.{kinds_within, BareStand, KindedFits}
 use Rattle.ur_sqltype.specs.Tables.{shape_at, table_from, table_at}
 use Rattle.ur_sqltype.specs.Query.{if_kind, of_kind, of_some_kind, as_column, column_in, int_param, limited}
 use Rattle.ur_sqltype.proofs.Lists.{some_is, none_is}
 use Rattle.ur_sqltype.proofs.Taken.{then_taken, map_taken}
-use Rattle.ur_sqltype.proofs.Values.{if_taken, if_not, named_there}
+use Rattle.ur_sqltype.proofs.SqltypeValues.{if_taken, if_not, named_there}
 
 same_is : (j k : ColumnKind) → same_kind j k ≡ true → j ≡ k
 same_is kind.Int kind.Int e = refl

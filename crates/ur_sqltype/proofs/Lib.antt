@@ -1,12 +1,22 @@
+mod Equations
+mod Sizes
+mod Steps
+mod Leaves
+mod Faultless
+mod Fitting
+pub mod Exits
+pub mod Values
+pub mod Once
+mod Broken
 pub mod Lists
 pub mod Taken
-mod Equations
+mod SqltypeEquations
 pub mod Missing
-pub mod Values
+pub mod SqltypeValues
 pub mod Kinding
 pub mod Grouping
 pub mod Whole
 pub mod Faulty
 pub mod FaultyChange
-pub mod Fitting
+pub mod SqltypeFitting
 pub mod FittingChange

@@ -2,7 +2,7 @@
 use Rattle.std.proofs.Common.{◌≡◌, ◌∙◌, refl, ap, ℕ, zero, suc, ◌<◌, Bool, true, false, List, [], ◌∷◌, ◌++◌, length, Option, Some, None, arith}
 use Rattle.std.specs.Prelude.{Contains, if◌then◌else◌, slice_index_or}
 use Rattle.std.specs.List.{flat_map}
-use Rattle.ur_sqltable.specs.Lists.{and_then, all_of}
+use Rattle.ur_sqltype.specs.Lists.{and_then, all_of}
 
 nothing_behind : {B : Type 0} (o : Option B) → and_then o None ≡ None
 nothing_behind None = refl

@@ -10,10 +10,10 @@ use Rattle.ur_values.specs.declared.schema.ColumnKind.TheVariants as kind
 use Rattle.ur_values.specs.declared.schema.Schema.{Schema}
 use Rattle.ur_sql.specs.declared.query.Query.{Query}
 use Rattle.ur_sql.specs.declared.query.Field.{Field}
-use Rattle.ur_sqlexp.specs.declared.scope.Source.{Source}
-use Rattle.ur_sqlexp.specs.declared.scope.Within.{Within}
-use Rattle.ur_sqltable.specs.Lists.{all_of, maybe, repeated}
-use Rattle.ur_sqltable.proofs.Once.{distinct}
+use Rattle.ur_sqltype.specs.declared.scope.Source.{Source}
+use Rattle.ur_sqltype.specs.declared.scope.Within.{Within}
+use Rattle.ur_sqltype.specs.Lists.{all_of, maybe, repeated}
+use Rattle.ur_sqltype.proofs.Once.{distinct}
 use Rattle.ur_sqltype.specs.Tables.{sources_of}
 use Rattle.ur_sqltype.specs.Query.{of_kind, ons_of, column_in, ordered, limited, Chosen, chosen_of, named_of, alias_fields, in_order, fields_with, all_fields, once_named, fields_of, field_number, item_of, reads, begun, with_on, with_filter, with_fields, with_group, with_order, with_limit, with_offset, to_filter, to_fields, to_group, to_order, to_limit, stated, once_aliased, items_of, outside, well_grouped, query_over, query_of}
 use Rattle.ur_sqltype.specs.IsQuery.{StatedIsQuery}

@@ -3,8 +3,8 @@ use Rattle.std.specs.Prelude.{◌≡◌, List, Option, Some, None}
 use Rattle.ur_values.specs.declared.schema.ColumnKind.{ColumnKind}
 use Rattle.ur_rows.specs.declared.normal.Normal.{Normal}
 use Rattle.ur_rows.specs.declared.normal.Normal.TheVariants as normal
-use Rattle.ur_sqltable.specs.Lists.{all_of}
-use Rattle.ur_sqltable.specs.Table.{type_kind}
+use Rattle.ur_sqltype.specs.Lists.{all_of}
+use Rattle.ur_sqltype.specs.Table.{type_kind}
 
 -- what is found of an antiquote, as a type of SQL
 abbrev pub found_kind : Normal → Option ColumnKind

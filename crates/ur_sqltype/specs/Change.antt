@@ -15,11 +15,11 @@ use Rattle.ur_sql.specs.declared.scalar.Scalar.{Scalar}
 use Rattle.ur_sql.specs.declared.change.Change.{Change}
 use Rattle.ur_sql.specs.declared.change.Action.{Action}
 use Rattle.ur_sql.specs.declared.change.Action.TheVariants as action
-use Rattle.ur_type_words.specs.FieldNames.{capital}
-use Rattle.ur_sqlexp.specs.declared.scope.Within.{Within}
-use Rattle.ur_sqlexp.specs.Scope.{column_of}
+use Rattle.ur_tree.specs.FieldNames.{capital}
+use Rattle.ur_sqltype.specs.declared.scope.Within.{Within}
+use Rattle.ur_sqltype.specs.Scope.{column_of}
 use Rattle.ur_sqltype.specs.Tables.{table_at}
-use Rattle.ur_sqltable.specs.Lists.{all_of, maybe, repeated}
+use Rattle.ur_sqltype.specs.Lists.{all_of, maybe, repeated}
 use Rattle.ur_sqltype.specs.Choice.{if_none}
 use Rattle.ur_sqltype.specs.Query.{of_kind}
 

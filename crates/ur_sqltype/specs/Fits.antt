@@ -1,18 +1,29 @@
--- The cores of queries and changes fit their tables.
-use Rattle.std.specs.Prelude.{◌≡◌, ℕ, List, Some}
+-- What an expression stands for has its kind in the core.
+use Rattle.std.specs.Prelude.{◌≡◌, ◌⊎◌, ℕ, List, [], ◌∷◌, map, Some}
+use Rattle.ur_syntax.specs.declared.sql.SqlForm.{SqlForm}
 use Rattle.ur_values.specs.declared.schema.ColumnKind.{ColumnKind}
-use Rattle.ur_values.specs.declared.schema.Schema.{Schema}
-use Rattle.ur_syntax.specs.declared.sql.SqlQuery.{SqlQuery}
-use Rattle.ur_syntax.specs.declared.sql.SqlChange.{SqlChange}
-use Rattle.ur_sql.specs.declared.query.Query.{Query}
-use Rattle.ur_sql.specs.declared.change.Change.{Change}
-use Rattle.ur_sql.specs.Typing.{QueryFits, ChangeFits}
-use Rattle.ur_sqltype.specs.Query.{query_of}
-use Rattle.ur_sqltype.specs.Change.{change_of}
+use Rattle.ur_sql.specs.declared.scalar.Scalar.{Scalar}
+use Rattle.ur_sql.specs.Typing.{Kinds, HasKind}
+use Rattle.ur_sqltype.specs.declared.scope.Source.{Source}
+use Rattle.ur_sqltype.specs.declared.scope.Within.{Within}
+use Rattle.ur_sqltype.specs.Expression.{kinded}
 
--- a core fits its tables
-abbrev pub QueryOfFits : Type 0
-QueryOfFits = (m : List ℕ) (tables : Schema) (names : List (List ℕ)) (antiquotes : List ColumnKind) (q : SqlQuery) (core : Query) → query_of m tables names antiquotes q ≡ Some core → QueryFits tables core
+-- the kinds of a source's columns
+abbrev pub kinds_of_source : Source → List ColumnKind
+kinds_of_source s = map (λ c. c.1) s.columns
 
-abbrev pub ChangeOfFits : Type 0
-ChangeOfFits = (m : List ℕ) (tables : Schema) (antiquotes : List ColumnKind) (u : SqlChange) (core : Change) → change_of m tables antiquotes u ≡ Some core → ChangeFits tables core
+-- the kinds that the core reads: those of the antiquotes, and those of the columns of each item
+abbrev pub kinds_within : Within → Kinds
+kinds_within w = record { params = w.antiquotes; items = map kinds_of_source w.sources }
+
+abbrev pub first_columns : List Source → List (List ℕ × ColumnKind)
+first_columns [] = []
+first_columns (s ∷ rest) = s.columns
+
+-- no column stands bare, or those of the one row do
+abbrev pub BareStand : Within → Type 0
+BareStand w = (w.bare ≡ []) ⊎ (w.bare ≡ first_columns w.sources)
+
+-- what is typed has its kind
+abbrev pub KindedFits : Type 0
+KindedFits = (w : Within) → BareStand w → (e : SqlForm) (x : Scalar) (k : ColumnKind) → kinded w e ≡ Some (x, k) → HasKind (kinds_within w) x k

@@ -8,8 +8,8 @@ use Rattle.ur_values.specs.declared.schema.Schema.{Schema}
 use Rattle.ur_sql.specs.declared.query.Query.{Query}
 use Rattle.ur_sql.specs.declared.query.Field.{Field}
 use Rattle.ur_sql.specs.Typing.{IsGrouped, FieldReadsOnly, ReadsOnly}
-use Rattle.ur_sqlexp.specs.declared.scope.Source.{Source}
-use Rattle.ur_sqltable.specs.Lists.{all_of, maybe}
+use Rattle.ur_sqltype.specs.declared.scope.Source.{Source}
+use Rattle.ur_sqltype.specs.Lists.{all_of, maybe}
 use Rattle.ur_sqltype.specs.Tables.{sources_of}
 use Rattle.ur_sqltype.specs.Query.{of_kind, ons_of, column_in, ordered, limited, Chosen, chosen_of, named_of, alias_fields, in_order, field_number, item_of, reads, query_of}
 

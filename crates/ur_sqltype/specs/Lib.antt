@@ -1,8 +1,15 @@
+pub mod Scope
+pub mod Expression
+pub mod Faults
+pub mod Fits
+pub mod Lists
+pub mod Table
+pub mod SqltableFaults
 pub mod Choice
 pub mod Antiquotes
 pub mod Tables
 pub mod Query
 pub mod IsQuery
 pub mod Change
-pub mod Fits
-pub mod Faults
+pub mod SqltypeFits
+pub mod SqltypeFaults

@@ -32,13 +32,13 @@ use Rattle.ur_sql.specs.declared.query.OrderKey.{OrderKey}
 use Rattle.ur_sql.specs.declared.query.Bound.{Bound}
 use Rattle.ur_sql.specs.declared.query.Bound.TheVariants as bound
 use Rattle.ur_sql.specs.Answer.{is_aggregate}
-use Rattle.ur_sqlexp.specs.declared.scope.Source.{Source}
-use Rattle.ur_sqlexp.specs.declared.scope.Within.{Within}
-use Rattle.ur_sqlexp.specs.Scope.{named_at}
+use Rattle.ur_sqltype.specs.declared.scope.Source.{Source}
+use Rattle.ur_sqltype.specs.declared.scope.Within.{Within}
+use Rattle.ur_sqltype.specs.Scope.{named_at}
 use Rattle.ur_sqltype.specs.Tables.{sources_of}
 use Rattle.ur_sqltype.specs.Choice.{if_none, or_else, first_in}
-use Rattle.ur_sqlexp.specs.Expression.{Kinded, same_kind, kinded}
-use Rattle.ur_sqltable.specs.Lists.{all_of, maybe, repeated}
+use Rattle.ur_sqltype.specs.Expression.{Kinded, same_kind, kinded}
+use Rattle.ur_sqltype.specs.Lists.{all_of, maybe, repeated}
 
 -- ---- parts, each there exactly where it has types
 

@@ -3,12 +3,12 @@ use Rattle.std.specs.Prelude.{ℕ, if◌then◌else◌, List, Option, Some, None
 use Rattle.ur_syntax.specs.declared.sql.DeclName.{DeclName}
 use Rattle.ur_syntax.specs.declared.sql.FromItem.{FromItem}
 use Rattle.ur_syntax.specs.Names.{name_text}
-use Rattle.ur_type_words.specs.FieldNames.{alias_of}
+use Rattle.ur_tree.specs.FieldNames.{alias_of}
 use Rattle.ur_values.specs.declared.schema.TableShape.{TableShape}
 use Rattle.ur_values.specs.declared.schema.Schema.{Schema}
-use Rattle.ur_sqlexp.specs.declared.scope.Source.{Source}
-use Rattle.ur_sqlexp.specs.Scope.{named_at}
-use Rattle.ur_sqltable.specs.Lists.{all_of}
+use Rattle.ur_sqltype.specs.declared.scope.Source.{Source}
+use Rattle.ur_sqltype.specs.Scope.{named_at}
+use Rattle.ur_sqltype.specs.Lists.{all_of}
 
 abbrev pub shape_at : List ℕ → List ℕ → Schema → Option (ℕ × TableShape)
 shape_at m x tables = named_at (λ s. s.name) (λ s. s) (name_text (Some m) x) tables.tables

@@ -2,13 +2,12 @@
 ghost use Rattle.std.specs.Prelude.{◌≡◌, Some, IfOk};
 ghost use Rattle.ur_base.specs.Stopping.{IfRefused};
 ghost use Rattle.ur_sqltype.specs.Antiquotes.{AreKinds, found_kind};
-ghost use Rattle.ur_sqltype.specs.Faults.{AntiquoteIsOther, IsOther};
+ghost use Rattle.ur_sqltype.specs.SqltypeFaults.{AntiquoteIsOther, IsOther};
 
+use crate::{misfit, normal_text, nowhere, type_kind};
 use std::alloc::Global;
 use ur_base::{List, Stop, Text};
 use ur_rows::Normal;
-use ur_sqlexp::misfit;
-use ur_sqltable::{normal_text, nowhere, type_kind};
 use ur_values::ColumnKind;
 
 /// What is found of an antiquote, as a type of SQL.

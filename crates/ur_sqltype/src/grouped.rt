@@ -5,7 +5,7 @@ ghost use Rattle.ur_sql.specs.Answer.{is_aggregate};
 ghost use Rattle.ur_sqltype.specs.Choice.{or_else, first_in};
 ghost use Rattle.ur_sqltype.specs.Query.{at_outside, outside_in, field_outside, key_outside, is_grouped, outside};
 
-use crate::columns::has_column;
+use crate::sqltype_columns::has_column;
 use ur_base::Name;
 use ur_sql::{ColumnAt, Field, OrderKey, Query, Scalar};
 
@@ -29,7 +29,7 @@ fn or_else(first: Option<ColumnAt>, other: Option<ColumnAt>) -> Option<ColumnAt>
 }
 
 /// The first column of an expression that is none of these.
-#[tactic(auto, using(crate::proofs::Equations::outs))]
+#[tactic(auto, using(crate::proofs::SqltypeEquations::outs))]
 fn outside_in(by: &Scalar, group: &[ColumnAt]) -> Option<ColumnAt>
     ensures { result ≡ outside_in group.now by.now }
 {

@@ -1,45 +1,12 @@
-//! Laws of what queries and changes stand for.
-ghost use Rattle.ur_sqltype.specs.IsQuery.{StatedIsQuery};
-ghost use Rattle.ur_sqltype.specs.Change.{StatedIsChange};
-ghost use Rattle.ur_sqltype.specs.Fits.{QueryOfFits, ChangeOfFits};
-ghost use Rattle.ur_sqltype.specs.Faults.{FaultyQueryIsNone, FaultyChangeIsNone};
+ghost use Rattle.ur_sqltype.specs.Faults.{FaultyIsNone};
+ghost use Rattle.ur_sqltype.specs.Fits.{KindedFits};
 
-use ur_sqlexp::{faulty_is_none, kinded_fits};
-
-/// The core of a query is what the rules say of it.
-pub fn stated_is_query()
-    ensures { StatedIsQuery }
+/// What has a fault stands for nothing.
+pub fn faulty_is_none()
+    ensures { FaultyIsNone }
 {}
 
-/// The core of a change is what the rules say of it.
-pub fn stated_is_change()
-    ensures { StatedIsChange }
+/// What an expression stands for has its kind in the core.
+pub fn kinded_fits()
+    ensures { KindedFits }
 {}
-
-/// A query with a fault has no core.
-pub fn faulty_query_is_none()
-    ensures { FaultyQueryIsNone }
-{
-    faulty_is_none();
-}
-
-/// A change with a fault has no core.
-pub fn faulty_change_is_none()
-    ensures { FaultyChangeIsNone }
-{
-    faulty_is_none();
-}
-
-/// The core of a query fits its tables.
-pub fn query_of_fits()
-    ensures { QueryOfFits }
-{
-    kinded_fits();
-}
-
-/// The core of a change fits its table.
-pub fn change_of_fits()
-    ensures { ChangeOfFits }
-{
-    kinded_fits();
-}

@@ -3,15 +3,15 @@ ghost use Rattle.std.specs.Prelude.{◌≡◌, [], ◌∷◌, ◌++◌, Some, If
 ghost use Rattle.ur_base.specs.Stopping.{IfRefused};
 ghost use Rattle.ur_values.specs.declared.schema.ColumnKind.TheVariants as kind;
 ghost use Rattle.ur_syntax.specs.declared.sql.SqlExp.{SqlExp as Written};
-ghost use Rattle.ur_sqlexp.specs.Faults.{HasFault, Misfits};
-ghost use Rattle.ur_sqltable.specs.Lists.{maybe};
+ghost use Rattle.ur_sqltype.specs.Faults.{HasFault, Misfits};
+ghost use Rattle.ur_sqltype.specs.Lists.{maybe};
 ghost use Rattle.ur_sqltype.specs.Query.{of_kind, of_some_kind, as_column, column_in};
-ghost use Rattle.ur_sqltype.specs.Faults.{ColumnBreaks};
+ghost use Rattle.ur_sqltype.specs.SqltypeFaults.{ColumnBreaks};
 
+use crate::{Within, exp_kind, misfit, of_kind};
 use std::alloc::Global;
 use ur_base::{Boxed, List, Memory, Span, Stop};
 use ur_sql::{ColumnAt, Scalar};
-use ur_sqlexp::{Within, exp_kind, misfit, of_kind};
 use ur_syntax::SqlExp;
 use ur_values::ColumnKind;
 

@@ -2,8 +2,8 @@
 ghost use Rattle.std.specs.Prelude.{◌≡◌, [], map, slice_get, slice_index_or, IfOk};
 ghost use Rattle.ur_rows.specs.Made as made;
 ghost use Rattle.ur_sql.specs.Typing.{column_kind, kinds_in};
-ghost use Rattle.ur_type_words.specs.Scalars.{kind_type};
-ghost use Rattle.ur_type_words.specs.QueryRow.{scalar_kind, constant_kind, kind_if_any, named_part, columns_row, aggregate_type, field_part, fields_row, query_row};
+ghost use Rattle.ur_tree.specs.Scalars.{kind_type};
+ghost use Rattle.ur_tree.specs.QueryRow.{scalar_kind, constant_kind, kind_if_any, named_part, columns_row, aggregate_type, field_part, fields_row, query_row};
 
 use std::alloc::Global;
 use ur_base::{List, Memory, Name, Text};

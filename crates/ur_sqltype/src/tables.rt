@@ -1,14 +1,14 @@
 //! Tables by their names, and the items of FROM.
 ghost use Rattle.std.specs.Prelude.{◌≡◌, Some, None, IfOk, MatchOption};
 ghost use Rattle.ur_base.specs.Stopping.{IfRefused};
-ghost use Rattle.ur_type_words.specs.FieldNames.{alias_of};
-ghost use Rattle.ur_sqlexp.specs.Scope.{named_at};
+ghost use Rattle.ur_tree.specs.FieldNames.{alias_of};
+ghost use Rattle.ur_sqltype.specs.Scope.{named_at};
 ghost use Rattle.ur_sqltype.specs.Tables.{source_at, sources_of, table_at};
-ghost use Rattle.ur_sqltype.specs.Faults.{NoTable, NoSource, NoItem};
+ghost use Rattle.ur_sqltype.specs.SqltypeFaults.{NoTable, NoSource, NoItem};
 
+use crate::{Source, capital, name_text, place, unknown};
 use std::alloc::Global;
 use ur_base::{List, Memory, Refusal, Stop, Text};
-use ur_sqlexp::{Source, capital, name_text, place, unknown};
 use ur_syntax::{DeclName, FromItem};
 use ur_values::{ColumnKind, Schema, TableShape};
 

@@ -9,6 +9,7 @@ mod paths;
 mod routes;
 mod segments;
 
+pub use marks::tag_word;
 pub use pages::{show, show_error, show_text};
 pub use paths::{path, route, routes_back};
 pub use routes::{FormField, Handlers, Param, Route};

@@ -111,6 +111,7 @@ pub fn is_void(tag: Tag) -> bool
     }
 }
 
+/// The word of a tag.
 pub fn tag_word(tag: Tag) -> &'static [u8]
     ensures { result.now ≡ shown.tag_word tag }
 {

@@ -1,7 +1,7 @@
 -- Closed examples, which compute.
 use Rattle.std.specs.Prelude.{◌≡◌, refl, ℕ, pos, true, false, List, [], ◌∷◌, codes}
 use Rattle.ur_values.specs.declared.value.Value.TheVariants as v
-use Rattle.ur_types.specs.declared.types.ValueType.TheVariants as ty
+use Rattle.ur_values.specs.declared.types.ValueType.TheVariants as ty
 use Rattle.ur_values.specs.Order.{value_cmp}
 use Rattle.ur_values.specs.declared.value.Value.{Value}
 use Rattle.ur_values.specs.declared.value.Node.TheVariants as n

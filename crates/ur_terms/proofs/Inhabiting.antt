@@ -6,8 +6,8 @@ use mathlib.Core.Former.{Count}
 use denote.Hole.Carrier as Carrier
 use Rattle.std.specs.Str.{IsUtf8}
 use Rattle.ur_base.specs.declared.names.Name.{Name}
-use Rattle.ur_types.specs.declared.types.ValueType.{ValueType}
-use Rattle.ur_types.specs.declared.types.ValueType.TheVariants as ty
+use Rattle.ur_values.specs.declared.types.ValueType.{ValueType}
+use Rattle.ur_values.specs.declared.types.ValueType.TheVariants as ty
 use Rattle.ur_values.specs.declared.value.Value.{Value, out-Value, roll-Value, roll-out-Value, Row_of-Value, end_of-Value, more_of-Value, Row_of-Value-Row-0-2, end_of-Value-Row-0-2, more_of-Value-Row-0-2, items-the_row-Value, items-the_row-Value-Row-0-2, items_hidden-the_row-Value-1, items_hidden-the_row-Value-Row-0-2-2}
 use Rattle.ur_values.specs.declared.value.Value.TheVariants as v
 use Rattle.ur_values.specs.declared.value.Node.TheBlock as block

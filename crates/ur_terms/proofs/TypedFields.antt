@@ -3,7 +3,7 @@ use Rattle.std.proofs.Common.{◌≡◌, ◌==◌, List, [], ◌∷◌, Option, 
 use Rattle.std.specs.Prelude.{nat_lt, find, option_map}
 use Rattle.std.specs.List.{AllZip}
 use Rattle.ur_base.specs.declared.names.Name.{Name}
-use Rattle.ur_types.specs.declared.types.ValueType.{ValueType}
+use Rattle.ur_values.specs.declared.types.ValueType.{ValueType}
 use Rattle.ur_values.specs.declared.value.Value.{Value}
 use Rattle.ur_terms.specs.Values.{with_field, fields_together, field_at, without_field, fields_of}
 use Rattle.ur_terms.specs.Inhabits.{Variants}

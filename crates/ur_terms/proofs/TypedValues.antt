@@ -5,10 +5,10 @@ use Rattle.std.specs.List.{AllByRecursion}
 use Rattle.std.specs.Str.{IsUtf8}
 use Rattle.std.proofs.lemmas.Bool.{false≢true}
 use Rattle.ur_base.specs.declared.names.Name.{Name}
-use Rattle.ur_types.specs.declared.types.TypeField.{TypeField}
-use Rattle.ur_types.specs.declared.types.ValueType.{ValueType, ValueType-F, out-ValueType}
-use Rattle.ur_types.specs.declared.types.ValueType.TheVariants as ty
-use Rattle.ur_types.specs.declared.types.ValueType.TheOpen as oty
+use Rattle.ur_values.specs.declared.types.TypeField.{TypeField}
+use Rattle.ur_values.specs.declared.types.ValueType.{ValueType, ValueType-F, out-ValueType}
+use Rattle.ur_values.specs.declared.types.ValueType.TheVariants as ty
+use Rattle.ur_values.specs.declared.types.ValueType.TheOpen as oty
 use Rattle.ur_values.specs.declared.value.Value.{Value, out-Value}
 use Rattle.ur_values.specs.declared.value.Value.TheVariants as v
 use Rattle.ur_values.specs.declared.value.Node.{Node}

@@ -1,7 +1,7 @@
 -- Values of a first-order type.
 use Rattle.std.specs.Prelude.{◌≡◌, ℕ, List, [], ◌∷◌, Option, Some, None, slice_get}
-use Rattle.ur_types.specs.declared.types.ValueType.{ValueType}
-use Rattle.ur_types.specs.declared.types.ValueType.TheVariants as vt
+use Rattle.ur_values.specs.declared.types.ValueType.{ValueType}
+use Rattle.ur_values.specs.declared.types.ValueType.TheVariants as vt
 use Rattle.ur_base.specs.declared.names.Name.{Name}
 use Rattle.ur_values.specs.declared.value.Value.{Value, Row_of-Value, end_of-Value, more_of-Value, Row_of-Value-Row-0-2, end_of-Value-Row-0-2, more_of-Value-Row-0-2, Held-Value-Tagged-1, None', Some'}
 use Rattle.ur_values.specs.declared.value.Value.TheVariants as v

@@ -1,8 +1,8 @@
 -- What is so of all first-order terms.
 use Rattle.std.specs.Prelude.{◌≡◌, ℕ, suc, List, ◌++◌, map, Some, slice_get}
 use Rattle.std.specs.List.{AllByRecursion, AllZip}
-use Rattle.ur_types.specs.declared.types.ValueType.{ValueType}
-use Rattle.ur_types.specs.declared.types.ValueType.TheVariants as ty
+use Rattle.ur_values.specs.declared.types.ValueType.{ValueType}
+use Rattle.ur_values.specs.declared.types.ValueType.TheVariants as ty
 use Rattle.ur_values.specs.declared.value.Value.{Value}
 use Rattle.ur_values.specs.Event.{Event}
 use Rattle.ur_values.specs.Sql.{Sql}

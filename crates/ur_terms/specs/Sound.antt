@@ -2,8 +2,8 @@
 use Rattle.std.specs.Prelude.{◌≡◌, ◌≢◌, ℕ, suc, ◌<◌, ◌≤◌, ℤ, pos, ◌+ℤ◌, Bool, true, List, [], ◌∷◌, ◌++◌, Option, Some, None, slice_get, slice_set}
 use Rattle.std.specs.List.{Contains, AllByRecursion, AllZip}
 use Rattle.std.specs.Str.{IsUtf8}
-use Rattle.ur_types.specs.declared.types.ValueType.{ValueType}
-use Rattle.ur_types.specs.declared.types.ValueType.TheVariants as ty
+use Rattle.ur_values.specs.declared.types.ValueType.{ValueType}
+use Rattle.ur_values.specs.declared.types.ValueType.TheVariants as ty
 use Rattle.ur_values.specs.declared.value.Value.TheVariants as v
 use Rattle.ur_base.specs.declared.names.Name.{Name}
 use Rattle.ur_values.specs.declared.value.Node.{Node}

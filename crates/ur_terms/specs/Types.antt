@@ -4,9 +4,9 @@ use Rattle.std.specs.List.{Contains}
 use Rattle.ur_base.specs.declared.names.Name.{Name}
 use Rattle.std.specs.Str.{IsUtf8}
 use Rattle.ur_values.specs.Values.{IsInt}
-use Rattle.ur_types.specs.declared.types.ValueType.{ValueType}
-use Rattle.ur_types.specs.declared.types.ValueType.TheVariants as ty
-use Rattle.ur_types.specs.declared.types.TypeField.{TypeField}
+use Rattle.ur_values.specs.declared.types.ValueType.{ValueType}
+use Rattle.ur_values.specs.declared.types.ValueType.TheVariants as ty
+use Rattle.ur_values.specs.declared.types.TypeField.{TypeField}
 use Rattle.ur_values.specs.declared.value.Tag.{Tag}
 use Rattle.ur_values.specs.declared.value.Tag.TheVariants as tag
 use Rattle.ur_values.specs.declared.value.FieldKind.{FieldKind}

@@ -1,7 +1,6 @@
 //! First-order terms.
 use ur_base::{Boxed, List, Name, Text};
-use ur_types::ValueType;
-use ur_values::{FieldKind, Tag};
+use ur_values::{FieldKind, Tag, ValueType};
 
 /// What a query gives: all rows, the only row, at most one row.
 #[derive(Clone, Copy, Debug, PartialEq, Eq)]

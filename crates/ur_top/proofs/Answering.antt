@@ -9,16 +9,16 @@ use Rattle.ur_io.specs.declared.session.SessionEnd.{SessionEnd}
 use Rattle.ur_words.specs.declared.reading.Reading.{Reading}
 use Rattle.ur_words.specs.declared.reading.Reading.TheVariants.{Replay, Load}
 use Rattle.ur_values.specs.declared.schema.Schema.{Schema}
-use Rattle.ur_keeper.specs.Tables.{Empty, Keeps}
+use Rattle.ur_keeper.specs.Keeper.{CanTake, HasOther}
 use Rattle.ur_tree.specs.declared.typed.Typed.{Typed}
-use Rattle.ur_compile.specs.Accepts.{Accepts, HasOneApplication}
+use Rattle.ur_compile.specs.Accepts.{HasOneApplication}
 use Rattle.ur_compile.specs.Explains.{Refuses}
 use Rattle.ur_headline.specs.Counting.{wire_faults, next_failed, IsCutOff, IsWireStatus, LeftOut, WantsMemory, IsWhole}
 use Rattle.ur_headline.specs.Readings.{serving, ForServing}
-use Rattle.ur_top.specs.Ends.{World, HasFiles, NoCalls, IsSaid, IsStatus, Reports}
+use Rattle.ur_top.specs.Ends.{World, HasFiles, NoCalls, SameWire, IsSaid, IsStatus, Reports}
 use Rattle.ur_top.specs.Obeyed.{Obeyed}
 use Rattle.ur_top.specs.Prints.{Prints}
-use Rattle.ur_top.specs.Sources.{ForReport, ForSource, OfSource, Compiles, HasNoCode}
+use Rattle.ur_top.specs.Sources.{ForReport, ForSource, OfSource, ForApplication, Compiles, HasNoCode}
 use Rattle.ur_top.specs.declared.reporting.RunEnd.{RunEnd}
 use Rattle.ur_top.specs.declared.reporting.RunEnd.TheVariants as end
 use Rattle.ur_top.proofs.Cases.{of_source}
@@ -92,9 +92,15 @@ module _ {told : Option Files} {tells : Type 0} {reading : Option Reading} {old 
   pub no_current : ForServing reading (λ s. Contains (0 ∷ 6 ∷ []) status ⊎ (sessions ≢ []) → new.current ≡ false)
   no_current = of.no_current told reading old new sessions status e obeyed.ends is
 
-  pub not_begun : Contains (1 ∷ 2 ∷ 3 ∷ 4 ∷ 7 ∷ []) status → (sessions ≡ []) × (new.wire ≡ old.wire) × (new.wire_faults ≡ old.wire_faults) × (new.current ≡ old.current)
+  pub not_begun : Contains (1 ∷ 2 ∷ 3 ∷ 4 ∷ 7 ∷ []) status → (sessions ≡ []) × SameWire old new
   not_begun which = let calls : NoCalls old new sessions = of.not_begun told reading old new sessions status e obeyed.ends is which in
-      (calls.none, calls.same_wire, calls.same_faults, calls.same_current)
+      (calls.none, (calls.same_wire, calls.same_faults, calls.same_current))
+
+  pub wanting : status ≡ 8 → sessions ≡ [] → SameWire old new
+  wanting eight none = of.memory_wanting told reading old new sessions status none e obeyed.ends is (obeyed.wanting none) eight
+
+  pub unsaid : status ≡ 5 → sessions ≡ [] → SameWire old new ⊎ (new.current ≡ false)
+  unsaid five none = of.unsaid told reading old new sessions status none e obeyed.ends is (obeyed.wanting none) five
 
   pub unserved : Contains (1 ∷ 2 ∷ 3 ∷ 4 ∷ 7 ∷ []) status → (new.saved ≡ old.saved) × (new.kept ≡ old.kept)
   unserved which = obeyed.unserved (of.unserved told reading old new sessions status e is which)
@@ -105,16 +111,18 @@ module _ {told : Option Files} {tells : Type 0} {reading : Option Reading} {old 
     pub one_application : ForSource told reading (λ files word. HasOneApplication files word)
     one_application = of_source told reading (λ files word. HasOneApplication files word) one
 
-    pub schema_only : status ≡ 3 → (serving reading ≢ None) × (new.saved ≡ old.saved) × (new.kept ≡ old.kept)
-        × (WhereTold told (λ files. ForServing reading (λ s. (app : Typed) → Accepts files s.project app → old.kept ≢ Keeps app.schema)))
-    schema_only = of.schema_only told reading old new sessions status one e obeyed.ends is
+    pub schema_only : status ≡ 3 → ForApplication told reading (λ s app. CanTake app.schema old.kept → ⊥)
+    schema_only three = (of.schema_only told reading old new sessions status one e obeyed.ends is three).3
 
-    pub schema : WhereTold told (λ files. ForServing reading (λ s. (app : Typed) → Compiles files s.project app → (other : Schema)
-        → old.kept ≡ Keeps other → other ≢ app.schema → Contains (3 ∷ 4 ∷ 5 ∷ 7 ∷ 8 ∷ []) status × (sessions ≡ [])))
+    pub schema_left : status ≡ 3 → (serving reading ≢ None) × (new.saved ≡ old.saved) × (new.kept ≡ old.kept)
+    schema_left three = let all = of.schema_only told reading old new sessions status one e obeyed.ends is three in (all.0, all.1, all.2)
+
+    pub schema : WhereTold told (λ files. ForServing reading (λ s. (app : Typed) → Compiles files s.project app → HasOther app.schema old.kept
+        → Contains (3 ∷ 4 ∷ 5 ∷ 7 ∷ 8 ∷ []) status × (sessions ≡ [])))
     schema = of.schema told reading old new sessions status one e obeyed.ends is
 
     pub complete : (sink : Type 0) → (status ≡ 5 → sink) → WhereTold told (λ files. ForServing reading (λ s. (app : Typed) → Compiles files s.project app
-        → (old.kept ≡ Empty) ⊎ (old.kept ≡ Keeps app.schema) → ¬ (Rose old.shelf_faults new.shelf_faults) → ¬ (Rose old.wire_faults new.wire_faults)
+        → CanTake app.schema old.kept → ¬ (Rose old.shelf_faults new.shelf_faults) → ¬ (Rose old.wire_faults new.wire_faults)
         → ¬ (Rose old.keeper_faults new.keeper_faults) → ¬ sink → Contains (0 ∷ 8 ∷ []) status
         × WhereTold old.wire (λ t. WantsMemory status sessions ⊎ IsWhole s.most (length t.coming) status sessions)))
     complete sink fault = of.complete told reading old new sessions status one sink fault obeyed.keeper_rose e obeyed.ends is
@@ -135,17 +143,13 @@ module _ {told : Option Files} {tells : Type 0} {reading : Option Reading} {old 
   printed o mid now said reports = joined o mid now (IsSaid reading e) (Reports e status) (Prints told old.kept reading (rises_of old new) sessions status)
       (λ before text first then. prints told reading old new sessions status e before text obeyed.ends first then) said reports
 
--- a command that serves nothing
-pub no_serving : {told : Option Files} {tells : Type 0} {reading : Option Reading} {old new : World} {e : RunEnd} {sessions : List SessionEnd}
-    → Obeyed told tells reading old new e sessions → serving reading ≡ None → (sessions ≡ []) × (new.saved ≡ old.saved) × (new.kept ≡ old.kept)
-    × (new.reads ≡ old.reads) × (new.keeper_faults ≡ old.keeper_faults) × (new.wire ≡ old.wire) × (new.wire_faults ≡ old.wire_faults) × (new.current ≡ old.current)
-no_serving obeyed none = let all = obeyed.no_serving none in (
-  all.0,
-  ap (λ (w : World). w.saved) all.1,
-  ap (λ (w : World). w.kept) all.1,
-  ap (λ (w : World). w.reads) all.1,
-  ap (λ (w : World). w.keeper_faults) all.1,
-  ap (λ (w : World). w.wire) all.1,
-  ap (λ (w : World). w.wire_faults) all.1,
-  ap (λ (w : World). w.current) all.1,
-)
+-- a command that serves nothing leaves the wire, and the keeper
+module _ {told : Option Files} {tells : Type 0} {reading : Option Reading} {old new : World} {e : RunEnd} {sessions : List SessionEnd}
+    (obeyed : Obeyed told tells reading old new e sessions) (none : serving reading ≡ None) where
+  pub no_serving : (sessions ≡ []) × SameWire old new
+  no_serving = let all = obeyed.no_serving none in
+      (all.0, (ap (λ (w : World). w.wire) all.1, ap (λ (w : World). w.wire_faults) all.1, ap (λ (w : World). w.current) all.1))
+
+  pub no_serving_keeper : (new.saved ≡ old.saved) × (new.kept ≡ old.kept) × (new.reads ≡ old.reads) × (new.keeper_faults ≡ old.keeper_faults)
+  no_serving_keeper = let all = obeyed.no_serving none in
+      (ap (λ (w : World). w.saved) all.1, ap (λ (w : World). w.kept) all.1, ap (λ (w : World). w.reads) all.1, ap (λ (w : World). w.keeper_faults) all.1)

@@ -3,9 +3,9 @@ use Rattle.std.proofs.Common.{◌≡◌, ℕ, Bool, List, length, Option, Some, 
 use Rattle.ur_io.specs.Files.{Files}
 use Rattle.ur_code.specs.declared.code.Code.{Code}
 use Rattle.ur_tags.specs.declared.routes.Handlers.{Handlers}
-use Rattle.ur_patterns.specs.declared.patterns.Patterns.{Patterns}
-use Rattle.ur_patterns.specs.Patterns.{AreAllPatterns}
-use Rattle.ur_sites.specs.Texts.{sites_text}
+use Rattle.ur_conditions.specs.declared.patterns.Patterns.{Patterns}
+use Rattle.ur_conditions.specs.Patterns.{AreAllPatterns}
+use Rattle.ur_invalidate.specs.Texts.{sites_text}
 use Rattle.ur_tree.specs.declared.typed.Typed.{Typed}
 use Rattle.ur_compile.specs.Kept.{IsCodeFor}
 use Rattle.ur_words.specs.declared.reading.Settings.{Settings}

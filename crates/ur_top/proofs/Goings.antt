@@ -6,8 +6,8 @@ use Rattle.ur_base.specs.Told.{WhereTold, Tells}
 use Rattle.ur_io.specs.declared.session.SessionEnd.{SessionEnd}
 use Rattle.ur_io.specs.Calls.{count_after}
 use Rattle.ur_io.specs.Traffic.{Traffic}
-use Rattle.ur_keeper.specs.Tables.{Tables, Kept, Keeps, store_of}
-use Rattle.ur_serve.specs.Program.{Holding, Served, ServedAnswers, ServedReaches, fresh}
+use Rattle.ur_keeper.specs.Tables.{Tables, KeptSchema, Keeps, store_of}
+use Rattle.ur_serve.specs.Program.{Holding, ServedProgram, ServedAnswers, ServedReaches, fresh}
 use Rattle.ur_serve.specs.Responding.{served_by, holding_of}
 use Rattle.ur_serve.specs.Serving.{ServerState, IsReadyWithin}
 use Rattle.ur_headline.specs.Continuing.{RunSofar}
@@ -17,13 +17,13 @@ use Rattle.ur_headline.proofs.Running.{run_begins, run_goes_on}
 use Rattle.ur_headline.proofs.Counting.{sum_last, count_sum, count_one}
 use Rattle.ur_top.specs.declared.reporting.RunEnd.{RunEnd}
 use Rattle.ur_top.specs.declared.reporting.RunEnd.TheVariants as end
-use Rattle.ur_top.specs.declared.serving.Served as serving
+use Rattle.ur_top.specs.declared.serving.EndedServing as serving
 use Rattle.ur_top.specs.Serving.{HasNext, IsTaken, IsOver, HasFewRequests, ServesOn}
 
 -- ---- how many requests may be answered
 
 -- where more may be answered, fewer may
-pub ready_fewer : (bound : ℕ) (s : ServerState) (kept : Kept) (under_way : Bool) (saved : Option Tables) (m n : ℕ) → m ≤ n → IsReadyWithin bound s kept under_way saved n
+pub ready_fewer : (bound : ℕ) (s : ServerState) (kept : KeptSchema) (under_way : Bool) (saved : Option Tables) (m n : ℕ) → m ≤ n → IsReadyWithin bound s kept under_way saved n
     → IsReadyWithin bound s kept under_way saved m
 ready_fewer bound s kept under_way saved m n few h = record {
   ready = h.ready;
@@ -34,12 +34,12 @@ ready_fewer bound s kept under_way saved m n few h = record {
 }
 
 -- the keeper's schema is the code's before and after
-pub same_kept : (s s' : ServerState) (kept kept' : Kept) → served_by s' ≡ served_by s → kept ≡ Keeps s.code.schema → kept' ≡ Keeps s'.code.schema → kept' ≡ kept
-same_kept s s' kept kept' same is is' = is' ∙ ap (λ (p : Served). Keeps p.code.schema) same ∙ sym is
+pub same_kept : (s s' : ServerState) (kept kept' : KeptSchema) → served_by s' ≡ served_by s → kept ≡ Keeps s.code.schema → kept' ≡ Keeps s'.code.schema → kept' ≡ kept
+same_kept s s' kept kept' same is is' = is' ∙ ap (λ (p : ServedProgram). Keeps p.code.schema) same ∙ sym is
 
 -- ---- the run so far
 
-abbrev pub SoFar : Served → Option Traffic → Option Tables → ℕ → List SessionEnd → ℕ → Option Traffic → Option Holding → Type 0
+abbrev pub SoFar : ServedProgram → Option Traffic → Option Tables → ℕ → List SessionEnd → ℕ → Option Traffic → Option Holding → Type 0
 SoFar p told saved reads done left told' held' = WhereTold told (λ t. WhereTold saved (λ tables. Tells told' (λ u. Tells held' (λ now.
     RunSofar (ServedAnswers p) (ServedReaches p) (λ (h : Holding). h.store) 16777216 (fresh (store_of tables) reads) t done left now u))))
 
@@ -51,7 +51,7 @@ begun s (Some t) (Some tables) reads e =
     (record { store = store_of tables; entries = es; reads = reads }) t) (sym e)
     (run_begins (ServedAnswers (served_by s)) (ServedReaches (served_by s)) (λ (h : Holding). h.store) 16777216 (fresh (store_of tables) reads) t)
 
-pub goes_on : (p : Served) (told : Option Traffic) (saved : Option Tables) (reads : ℕ) (done : List SessionEnd) (left : ℕ) (told1 told2 : Option Traffic) (held1 held2 : Option Holding) (s : SessionEnd)
+pub goes_on : (p : ServedProgram) (told : Option Traffic) (saved : Option Tables) (reads : ℕ) (done : List SessionEnd) (left : ℕ) (told1 told2 : Option Traffic) (held1 held2 : Option Holding) (s : SessionEnd)
     → 0 < left → SoFar p told saved reads done left told1 held1 → HasNext p left told1 held1 s told2 held2
     → SoFar p told saved reads (done ++ s ∷ []) (left - length s.marks) told2 held2
 goes_on p None saved reads done left told1 told2 held1 held2 s some sofar next = tt
@@ -79,7 +79,7 @@ unmoved (Some t) told' faults faults' current current' (end.Loaded report) h = a
 unmoved (Some t) told' faults faults' current current' (end.Refused file refusal) h = absurd h
 unmoved (Some t) told' faults faults' current current' (end.Schema kept application) h = absurd h
 
-pub stays : (p : Served) (told : Option Traffic) (saved : Option Tables) (reads : ℕ) (done : List SessionEnd) (left : ℕ) (told1 told2 : Option Traffic) (held1 held2 : Option Holding)
+pub stays : (p : ServedProgram) (told : Option Traffic) (saved : Option Tables) (reads : ℕ) (done : List SessionEnd) (left : ℕ) (told1 told2 : Option Traffic) (held1 held2 : Option Holding)
     → SoFar p told saved reads done left told1 held1 → WhereTold told1 (λ t. told2 ≡ Some t) → held2 ≡ held1 → SoFar p told saved reads done left told2 held2
 stays p None saved reads done left told1 told2 held1 held2 sofar same is = tt
 stays p (Some t) None reads done left told1 told2 held1 held2 sofar same is = tt
@@ -103,11 +103,11 @@ has_served s s' (Some t) (Some u) (Some tables) (Some after) reads reads' left d
 }
 
 -- the same of the sessions that serving came to
-pub has_served_as : (s s' : ServerState) (told told' : Option Traffic) (saved saved' : Option Tables) (reads reads' left : ℕ) (done : List SessionEnd) (e : RunEnd) (r : serving.Served)
+pub has_served_as : (s s' : ServerState) (told told' : Option Traffic) (saved saved' : Option Tables) (reads reads' left : ℕ) (done : List SessionEnd) (e : RunEnd) (r : serving.EndedServing)
     → r ≡ record { end = e; sessions = done } → SoFar (served_by s) told saved reads done left told' (holding_of s' saved' reads')
     → WhereTold told (λ t. WhereTold saved (λ tables. Tells told' (λ u. Tells saved' (λ after. HasServed s (store_of tables) reads t r.sessions (store_of after) reads' u))))
 has_served_as s s' told told' saved saved' reads reads' left done e r is sofar =
-    subst (λ (x : serving.Served). WhereTold told (λ t. WhereTold saved (λ tables. Tells told' (λ u. Tells saved' (λ after. HasServed s (store_of tables) reads t x.sessions (store_of after) reads' u)))))
+    subst (λ (x : serving.EndedServing). WhereTold told (λ t. WhereTold saved (λ tables. Tells told' (λ u. Tells saved' (λ after. HasServed s (store_of tables) reads t x.sessions (store_of after) reads' u)))))
     (sym is) (has_served s s' told told' saved saved' reads reads' left done sofar)
 
 -- ---- how many connections are to come
@@ -181,10 +181,23 @@ pub serves_out : (most left : ℕ) (told : Option Traffic) (faults faults' : ℕ
 serves_out most left told faults faults' current done none marks shut counted =
     (λ some. shut (λ e. omega (arith, none, marks, ap marks_of e)), all_marks most left told done none marks, counted)
 
+-- ---- where memory was wanting before a connection was asked for
+
+abbrev pub IsStill : Option Traffic → Option Traffic → ℕ → ℕ → Bool → Bool → Type 0
+IsStill told told' faults faults' current current' = (told' ≡ told) × (faults' ≡ faults) × (current' ≡ current)
+
+pub over_wants : (told told' : Option Traffic) (faults faults' : ℕ) (current current' : Bool) (e : RunEnd) → IsOver told told' faults faults' current current' e → e ≡ end.Memory
+    → IsStill told told' faults faults' current current'
+over_wants told told' faults faults' current current' e over is =
+    let h = subst (IsOver told told' faults faults' current current') is over in (h.1, h.2, h.0)
+
+pub not_done : (r : serving.EndedServing) (done : List SessionEnd) (A : Type 0) → r ≡ record { end = end.Done; sessions = done } → r.end ≡ end.Memory → A
+not_done r done A is wants = absurd (let two : end.Done ≡ end.Memory = sym (ap (λ (x : serving.EndedServing). x.end) is) ∙ wants in cc)
+
 -- how serving ended, of what it came to
-pub ends_as : (most : ℕ) (told : Option Traffic) (faults faults' : ℕ) (current : Bool) (done : List SessionEnd) (e : RunEnd) (r : serving.Served) → r ≡ record { end = e; sessions = done }
+pub ends_as : (most : ℕ) (told : Option Traffic) (faults faults' : ℕ) (current : Bool) (done : List SessionEnd) (e : RunEnd) (r : serving.EndedServing) → r ≡ record { end = e; sessions = done }
     → ServesOn most told faults faults' current e done → ServesOn most told faults faults' current r.end r.sessions
-ends_as most told faults faults' current done e r is h = subst (λ (x : serving.Served). ServesOn most told faults faults' current x.end x.sessions) (sym is) h
+ends_as most told faults faults' current done e r is h = subst (λ (x : serving.EndedServing). ServesOn most told faults faults' current x.end x.sessions) (sym is) h
 
 -- ---- counts
 
@@ -221,9 +234,9 @@ none_short = All-from_recursion (λ (x : SessionEnd). length x.marks ≤ 1000) [
 pub no_requests : HasFewRequests []
 no_requests = (omega arith, none_short)
 
-pub few_requests : (left : ℕ) (done : List SessionEnd) (e : RunEnd) (r : serving.Served) → r ≡ record { end = e; sessions = done } → left + marks_of done ≤ 16777216
+pub few_requests : (left : ℕ) (done : List SessionEnd) (e : RunEnd) (r : serving.EndedServing) → r ≡ record { end = e; sessions = done } → left + marks_of done ≤ 16777216
     → All (λ s. length s.marks ≤ 1000) done → HasFewRequests r.sessions
-few_requests left done e r is total short = subst (λ (x : serving.Served). HasFewRequests x.sessions) (sym is) (omega (arith, total), short)
+few_requests left done e r is total short = subst (λ (x : serving.EndedServing). HasFewRequests x.sessions) (sym is) (omega (arith, total), short)
 
 -- ---- the beginning
 

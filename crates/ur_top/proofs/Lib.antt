@@ -1,3 +1,4 @@
+pub mod Examples
 pub mod Cases
 pub mod Statuses
 pub mod Printing

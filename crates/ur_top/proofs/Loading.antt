@@ -12,13 +12,13 @@ use Rattle.ur_keeper.specs.Tables.{Tables, empty_tables, store_of}
 use Rattle.ur_keeper.specs.Memory.{Memory, kept_of}
 use Rattle.ur_keeper.specs.Keeper.{AttachesTo}
 use Rattle.ur_keeper.specs.declared.keeper.Attached.TheVariants.{Ready}
-use Rattle.ur_workload.specs.Requests.{next_state, request, requests}
+use Rattle.ur_top.specs.Requests.{next_state, request, requests}
 use Rattle.ur_tree.specs.declared.typed.Typed.{Typed}
 use Rattle.ur_code.specs.declared.code.Code.{Code}
-use Rattle.ur_patterns.specs.declared.patterns.Patterns.{Patterns}
-use Rattle.ur_patterns.specs.Patterns.{AreAllPatterns}
-use Rattle.ur_sessions.specs.Programs.{IsSession}
-use Rattle.ur_serve.specs.Program.{Holding, Served, ServedAnswers, ServedReaches, fresh}
+use Rattle.ur_conditions.specs.declared.patterns.Patterns.{Patterns}
+use Rattle.ur_conditions.specs.Patterns.{AreAllPatterns}
+use Rattle.ur_serve.specs.Programs.{IsSession}
+use Rattle.ur_serve.specs.Program.{Holding, ServedProgram, ServedAnswers, ServedReaches, fresh}
 use Rattle.ur_serve.specs.Responding.{served_by}
 use Rattle.ur_serve.specs.Serving.{ServerState}
 use Rattle.ur_compile.specs.Accepts.{OneApplication}
@@ -45,7 +45,7 @@ on_done (Ok a) f h = f h
 on_done (Err e) f h = tt
 
 -- The session of the only connection that comes is one on its bytes.
-pub answered : (p : Served) (left : ℕ) (now after : Holding) (t u : Traffic) (bytes : List ℕ) (s : SessionEnd) → t.coming ≡ bytes ∷ [] → s.marks ≡ mark.Done ∷ []
+pub answered : (p : ServedProgram) (left : ℕ) (now after : Holding) (t u : Traffic) (bytes : List ℕ) (s : SessionEnd) → t.coming ≡ bytes ∷ [] → s.marks ≡ mark.Done ∷ []
     → IsNext p left now t s after u → IsAnswered p left now bytes after
 answered p left now after t u bytes s coming one h =
     let first : List ℕ = h.opens.0 in
@@ -68,14 +68,14 @@ answered p left now after t u bytes s coming one h =
 -- ---- requests so far
 
 -- From the start on: the first of these connections have their sessions, and from here the others are to come.
-pub record Sofar (p : Served) (start : Holding) (connections coming : List (List ℕ)) (left : ℕ) (now : Holding) : Type 0 where
+pub record Sofar (p : ServedProgram) (start : Holding) (connections coming : List (List ℕ)) (left : ℕ) (now : Holding) : Type 0 where
   pub sessions : List SessionEnd
   pub given : List (List ℕ)
   pub each : length sessions + length coming ≡ length connections
   pub done : All (λ s. All (λ m. m ≡ mark.Done) s.marks) sessions
   pub goes_on : Continues (ServedAnswers p) (ServedReaches p) (λ (h : Holding). h.store) 16777216 start connections sessions given left now coming
 
-pub sofar_none : (p : Served) (start : Holding) (connections : List (List ℕ)) → Sofar p start connections connections 16777216 start
+pub sofar_none : (p : ServedProgram) (start : Holding) (connections : List (List ℕ)) → Sofar p start connections connections 16777216 start
 sofar_none p start connections = record {
   sessions = [];
   given = [];
@@ -90,7 +90,7 @@ all_last sessions s all one =
     All-append (λ (s : SessionEnd). All (λ m. m ≡ mark.Done) s.marks) sessions (s ∷ []) all (All-from_recursion (λ (s : SessionEnd). All (λ m. m ≡ mark.Done) s.marks) (s ∷ [])
     (subst (λ ms. All (λ m. m ≡ mark.Done) ms) (sym one) (All-from_recursion (λ m. m ≡ mark.Done) (mark.Done ∷ []) (refl, tt)), tt))
 
-pub sofar_one : (p : Served) (start now after : Holding) (connections rest : List (List ℕ)) (bytes : List ℕ) (left : ℕ) → 0 < left → Sofar p start connections (bytes ∷ rest) left now
+pub sofar_one : (p : ServedProgram) (start now after : Holding) (connections rest : List (List ℕ)) (bytes : List ℕ) (left : ℕ) → 0 < left → Sofar p start connections (bytes ∷ rest) left now
     → IsAnswered p left now bytes after → Sofar p start connections rest (left - 1) after
 sofar_one p start now after connections rest bytes left some sofar a = record {
   sessions = sofar.sessions ++ a.session ∷ [];
@@ -102,7 +102,7 @@ sofar_one p start now after connections rest bytes left some sofar a = record {
       (continues_on (ServedAnswers p) (ServedReaches p) (λ (h : Holding). h.store) 16777216 start connections sofar.sessions sofar.given left now bytes rest a.session a.given after some sofar.goes_on a.is);
 }
 
-pub sofar_all : (p : Served) (start now : Holding) (connections : List (List ℕ)) (left : ℕ) → Sofar p start connections [] left now → AreAnswered p start connections now.reads
+pub sofar_all : (p : ServedProgram) (start now : Holding) (connections : List (List ℕ)) (left : ℕ) → Sofar p start connections [] left now → AreAnswered p start connections now.reads
 sofar_all p start now connections left sofar = record {
   sessions = sofar.sessions ++ [];
   given = sofar.given ++ [];
@@ -133,14 +133,14 @@ coming n turn later state next bytes below is is_next asked =
     let more : n - turn ≡ suc (n - later) = omega (arith, below, is) in
     ap (λ k. requests k state) more ∙ ap (λ x. request x ∷ requests (n - later) x) (sym is_next) ∙ ap (λ bs. bs ∷ requests (n - later) next) (sym asked)
 
-pub sofar_goes_on : (p : Served) (start now after : Holding) (connections : List (List ℕ)) (n turn later state next left : ℕ) (bytes : List ℕ) → 0 < left → turn < n → later ≡ turn + 1
+pub sofar_goes_on : (p : ServedProgram) (start now after : Holding) (connections : List (List ℕ)) (n turn later state next left : ℕ) (bytes : List ℕ) → 0 < left → turn < n → later ≡ turn + 1
     → next ≡ next_state state → bytes ≡ request next → Sofar p start connections (requests (n - turn) state) left now → IsAnswered p left now bytes after
     → Sofar p start connections (requests (n - later) next) (left - 1) after
 sofar_goes_on p start now after connections n turn later state next left bytes some below is is_next asked sofar answered =
     sofar_one p start now after connections (requests (n - later) next) bytes left some
     (subst (λ rest. Sofar p start connections rest left now) (coming n turn later state next bytes below is is_next asked) sofar) answered
 
-pub sofar_ends : (p : Served) (start now : Holding) (connections : List (List ℕ)) (n turn state left : ℕ) → n ≤ turn → Sofar p start connections (requests (n - turn) state) left now
+pub sofar_ends : (p : ServedProgram) (start now : Holding) (connections : List (List ℕ)) (n turn state left : ℕ) → n ≤ turn → Sofar p start connections (requests (n - turn) state) left now
     → AreAnswered p start connections now.reads
 sofar_ends p start now connections n turn state left all sofar =
     let none : n - turn ≡ 0 = omega (arith, all) in

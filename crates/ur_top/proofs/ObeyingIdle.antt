@@ -8,7 +8,7 @@ use Rattle.ur_words.specs.declared.reading.Reading.{Reading}
 use Rattle.ur_words.specs.declared.reading.Reading.TheVariants.{Check, Sites, Serve, Load}
 use Rattle.ur_words.specs.declared.reading.Settings.{Settings}
 use Rattle.ur_values.specs.declared.schema.Schema.{Schema}
-use Rattle.ur_keeper.specs.Tables.{Tables, Kept, Untold, Empty, Keeps}
+use Rattle.ur_keeper.specs.Tables.{Tables, KeptSchema, Untold, Empty, Keeps, Spells}
 use Rattle.ur_tree.specs.declared.typed.Typed.{Typed}
 use Rattle.ur_compile.specs.Accepts.{Accepts}
 use Rattle.ur_compile.specs.Explains.{Refuses}
@@ -16,9 +16,9 @@ use Rattle.ur_headline.specs.Readings.{Serving, serving}
 use Rattle.ur_headline.specs.Serves.{IsAttached}
 use Rattle.ur_headline.proofs.Counting.{rose_none}
 use Rattle.ur_top.specs.Ends.{World, HasFiles, NoCalls, IsWant, IsSaid, Ends, failed_next}
-use Rattle.ur_top.specs.Obeyed.{ForApplication, Obeyed}
+use Rattle.ur_top.specs.Obeyed.{Obeyed}
 use Rattle.ur_top.specs.Prints.{first_line}
-use Rattle.ur_top.specs.Sources.{OfSource, IsCoded}
+use Rattle.ur_top.specs.Sources.{ForApplication, OfSource, IsCoded}
 use Rattle.ur_top.specs.Starting.{Held, Uncompiled, IsChecked, IsSited, IsLoadEnd, HoldsOther, Unstarted}
 use Rattle.ur_top.specs.declared.reporting.RunEnd.{RunEnd}
 use Rattle.ur_top.specs.declared.reporting.RunEnd.TheVariants as end
@@ -113,10 +113,11 @@ loaded_ends told seed n old new e h idle = absurd h
 pub any_application : (told : Option Files) (reading : Option Reading) (P : Serving → Typed → Type 0) → ((s : Serving) (app : Typed) → P s app) → ForApplication told reading P
 any_application told reading P h = of_served told reading (λ files s. (app : Typed) → Accepts files s.project app → P s app) (λ files s t at app a. h s app)
 
-same_tables : (schema : Schema) (kept : Kept) (saved saved' : Option Tables) → saved' ≡ saved → IsAttached schema kept saved saved'
+same_tables : (schema : Schema) (kept : KeptSchema) (saved saved' : Option Tables) → saved' ≡ saved → IsAttached schema kept saved saved'
 same_tables schema Untold saved saved' same = tt
 same_tables schema Empty saved saved' same = inl same
 same_tables schema (Keeps k) saved saved' same = same
+same_tables schema (Spells text tables) saved saved' same = inl same
 
 -- where no call failed the count is as it was
 pub none_counted : (n old : ℕ) → n ≡ 0 → old ≡ count_after (0 + n) old
@@ -162,6 +163,7 @@ idle_obeys told tells reading old new e idle none unasked ends = record {
   left = λ x. (nothing, same_tables nothing old.kept old.saved new.saved idle.saved);
   kept = any_application told reading _ (λ s app. inl idle.kept);
   schema_kept = λ k is. idle.kept ∙ is;
+  wanting = λ none is. (idle.wire, idle.wire_faults, idle.current);
   at_rest = idle.at_rest;
   shelf_later = idle.shelf_later;
   wire_later = omega (arith, idle.wire_faults);

@@ -5,7 +5,7 @@ use Rattle.ur_base.specs.Told.{WhereTold}
 use Rattle.ur_io.specs.Files.{Files}
 use Rattle.ur_io.specs.Traffic.{Traffic}
 use Rattle.ur_io.specs.declared.session.SessionEnd.{SessionEnd}
-use Rattle.ur_reports.specs.Texts as texts
+use Rattle.ur_words.specs.Texts as texts
 use Rattle.ur_words.specs.declared.reading.Reading.{Reading}
 use Rattle.ur_words.specs.declared.reading.Reading.TheVariants.{Serve}
 use Rattle.ur_words.specs.declared.reading.Settings.{Settings}

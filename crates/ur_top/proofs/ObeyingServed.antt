@@ -1,6 +1,7 @@
 -- What is so after a project was served.
 use Rattle.std.proofs.Common.{◌≡◌, ◌≢◌, inl, inr, ℕ, zero, suc, ◌+◌, ◌≤◌, ◌<◌, Bool, true, false, List, [], ◌∷◌, length, Option, Some, None, Any, refl, sym, ap, subst, ◌∙◌, arith}
 use Rattle.std.specs.Prelude.{IsSome}
+use Rattle.std.proofs.lemmas.Bool.{false≢true}
 use Rattle.std.proofs.lemmas.List.Sums.{sum_by-cons}
 use Rattle.ur_base.specs.Counts.{Rose, RoseBy}
 use Rattle.ur_base.specs.Told.{WhereTold, Tells}
@@ -12,12 +13,12 @@ use Rattle.ur_words.specs.declared.reading.Reading.{Reading}
 use Rattle.ur_words.specs.declared.reading.Reading.TheVariants.{Replay, Serve}
 use Rattle.ur_words.specs.declared.reading.Settings.{Settings}
 use Rattle.ur_values.specs.declared.schema.Schema.{Schema}
-use Rattle.ur_keeper.specs.Keeper.{AttachesTo}
+use Rattle.ur_keeper.specs.Keeper.{AttachesTo, TellsStore, HasOther}
 use Rattle.ur_keeper.specs.declared.keeper.Attached.TheVariants.{Ready}
-use Rattle.ur_keeper.specs.Tables.{Tables, Kept, Untold, Empty, Keeps, AreSound, store_of}
+use Rattle.ur_keeper.specs.Tables.{Tables, KeptSchema, Untold, Empty, Keeps, Spells, AreSound, store_of}
 use Rattle.ur_tags.specs.Routes.{AreRoutes}
 use Rattle.ur_code.specs.declared.code.Code.{Code}
-use Rattle.ur_patterns.specs.Patterns.{AreAllPatterns}
+use Rattle.ur_conditions.specs.Patterns.{AreAllPatterns}
 use Rattle.ur_tree.specs.declared.typed.Typed.{Typed}
 use Rattle.ur_compile.specs.Accepts.{Accepts, OneApplication}
 use Rattle.ur_compile.specs.Kept.{IsCodeFor}
@@ -28,10 +29,10 @@ use Rattle.ur_headline.specs.Readings.{Serving, serving, IfServing}
 use Rattle.ur_headline.specs.Served.{HasServed}
 use Rattle.ur_headline.specs.Serves.{AttachLeaves, IsAttached, Serves}
 use Rattle.ur_headline.proofs.Counting.{rose_none, rose_counted}
-use Rattle.ur_top.specs.Ends.{World, Ends, failed_next, IsUnserved}
-use Rattle.ur_top.specs.Obeyed.{ForApplication, Obeyed}
+use Rattle.ur_top.specs.Ends.{World, SameWire, Ends, failed_next, IsUnserved}
+use Rattle.ur_top.specs.Obeyed.{Obeyed}
 use Rattle.ur_top.specs.Serving.{HasFewRequests, ServesOn, IsReplayed, IsUnsaid}
-use Rattle.ur_top.specs.Sources.{OfFiles, IsCoded}
+use Rattle.ur_top.specs.Sources.{ForApplication, OfFiles, IsCoded}
 use Rattle.ur_top.specs.Starting.{Held, IsStarted}
 use Rattle.ur_top.specs.declared.reporting.RunEnd.{RunEnd}
 use Rattle.ur_top.specs.declared.reporting.RunEnd.TheVariants as end
@@ -65,26 +66,43 @@ code_of_source app code h routes = record {
 -- ---- what `attach` leaves
 
 -- a schema that was kept is the application's
-same_schema : (schema other : Schema) (kept : Kept) (saved saved' : Option Tables) → AttachesTo schema kept Ready saved saved' → kept ≡ Keeps other → other ≡ schema
+same_schema : (schema other : Schema) (kept : KeptSchema) (saved saved' : Option Tables) → AttachesTo schema kept Ready saved saved' → kept ≡ Keeps other → other ≡ schema
 same_schema schema other kept saved saved' h is = let at = subst (λ k. AttachesTo schema k Ready saved saved') is h in at.0
 
-is_attached : (schema : Schema) (kept : Kept) (saved saved' : Option Tables) → AttachesTo schema kept Ready saved saved' → IsAttached schema kept saved saved'
+-- no other schema was told
+no_other : (schema : Schema) (kept : KeptSchema) (saved saved' : Option Tables) → AttachesTo schema kept Ready saved saved' → HasOther schema kept → ⊥
+no_other schema Untold saved saved' h other = other
+no_other schema Empty saved saved' h other = other
+no_other schema (Keeps k) saved saved' h other = other h.0
+no_other schema (Spells text tables) saved saved' h other = other h.0
+
+-- where it was told what the store has, the tables are told
+pub tells_after : (schema : Schema) (kept : KeptSchema) (saved saved' : Option Tables) → AttachesTo schema kept Ready saved saved' → TellsStore kept saved → IsSome saved'
+tells_after schema Untold saved saved' h tells = absurd tells
+tells_after schema Empty None saved' h tells = absurd (false≢true tells)
+tells_after schema Empty (Some t) saved' h tells = subst IsSome (sym h) refl
+tells_after schema (Keeps k) saved saved' h tells = subst IsSome (sym h.1) tells
+tells_after schema (Spells text tables) saved saved' h tells = subst IsSome (sym h.1) refl
+
+is_attached : (schema : Schema) (kept : KeptSchema) (saved saved' : Option Tables) → AttachesTo schema kept Ready saved saved' → IsAttached schema kept saved saved'
 is_attached schema Untold saved saved' h = tt
 is_attached schema Empty saved saved' h = inr h
 is_attached schema (Keeps k) saved saved' h = h.1
+is_attached schema (Spells text tables) saved saved' h = inr h
 
-attach_leaves : (schema : Schema) (kept : Kept) (saved : Option Tables) (tables : Tables) → AttachesTo schema kept Ready saved (Some tables) → AttachLeaves schema kept saved tables
+attach_leaves : (schema : Schema) (kept : KeptSchema) (saved : Option Tables) (tables : Tables) → AttachesTo schema kept Ready saved (Some tables) → AttachLeaves schema kept saved tables
 attach_leaves schema Untold saved tables h = tt
 attach_leaves schema Empty None tables h = cc
 attach_leaves schema Empty (Some t) tables h = cc
 attach_leaves schema (Keeps k) saved tables h = sym h.1
+attach_leaves schema (Spells text has) saved tables h = cc
 
 -- ---- what was served
 
 -- where wire and tables are told, the sessions are those that the headline says
 run_served : ServedRunServes → (app : Typed) (s : ServerState) → IsCodeOfSource app s.code → AreAllPatterns s.code.queries s.code.changes s.patterns → s.steps ≤ 4294967295
     → (settings : Settings) → settings.steps ≡ s.steps → settings.cache ≡ s.cache.capacity
-    → (kept : Kept) (wire wire' : Option Traffic) (saved mid saved' : Option Tables) (reads reads' : ℕ) (sessions : List SessionEnd)
+    → (kept : KeptSchema) (wire wire' : Option Traffic) (saved mid saved' : Option Tables) (reads reads' : ℕ) (sessions : List SessionEnd)
     → AttachesTo app.schema kept Ready saved mid → WhereTold mid (AreSound app.schema) → IsSome mid
     → WhereTold wire (λ t. WhereTold mid (λ tables. Tells wire' (λ u. Tells saved' (λ after. HasServed s (store_of tables) reads t sessions (store_of after) reads' u))))
     → WhereTold wire (λ t. Tells saved' (λ after. Serves app settings kept saved t sessions wire' (store_of after) reads reads'))
@@ -151,9 +169,9 @@ module _ (one : OneApplication) (law : ServedRunServes) (links : LinksOfSourceLe
     attaches app code = subst (λ z. AttachesTo z old.kept Ready old.saved mid.saved) code.schema started.server.attached
 
     pub run_obeys : (new : World) (e : RunEnd) (sessions : List SessionEnd) → (IsUnserved e → ⊥) → HasRun tells sv.most old mid s new sessions
-        → new.wire_faults ≡ count_after (wire_faults sessions + failed_next reading sessions e) old.wire_faults → Ends told reading old new e sessions
-        → Obeyed told tells reading old new e sessions
-    run_obeys new e sessions serves h counted ends = record {
+        → new.wire_faults ≡ count_after (wire_faults sessions + failed_next reading sessions e) old.wire_faults → (sessions ≡ [] → e ≡ end.Memory → SameWire old new)
+        → Ends told reading old new e sessions → Obeyed told tells reading old new e sessions
+    run_obeys new e sessions serves h counted wanting ends = record {
       serves = of_app _ (λ app code some tells.
           run_served law app s (source app code) started.patterns (subst (λ n. n ≤ 4294967295) (sym (ap (λ (z : ServerState). z.steps) started.server.is)) started.server.units)
           sv.settings (sym (ap (λ (z : ServerState). z.steps) started.server.is)) (sym (ap (λ (z : ServerState). z.cache.capacity) started.server.is))
@@ -167,6 +185,7 @@ module _ (one : OneApplication) (law : ServedRunServes) (links : LinksOfSourceLe
       few_requests = h.requests;
       no_serving = λ none. absurd (let two = sym is ∙ none in cc);
       idle = λ x. ((h.idle x).0, (h.idle x).1);
+      wanting = wanting;
       attached = of_app _ (λ app code x. subst (IsAttached app.schema old.kept old.saved) (sym (h.idle x).2) (is_attached app.schema old.kept old.saved mid.saved (attaches app code)));
       unserved = λ x. absurd (serves x);
       left = λ x. (s.code.schema, subst (IsAttached s.code.schema old.kept old.saved) (sym (h.idle x).2) (is_attached s.code.schema old.kept old.saved mid.saved started.server.attached));
@@ -179,9 +198,9 @@ module _ (one : OneApplication) (law : ServedRunServes) (links : LinksOfSourceLe
     }
 
     -- no connection was asked for
-    pub stopped_obeys : (new : World) (e : RunEnd) → (IsUnserved e → ⊥) → held new ≡ mid → new.wire ≡ old.wire → new.wire_faults ≡ old.wire_faults → new.reads ≡ old.reads → new.under_way ≡ under_way → failed_next reading [] e ≡ 0
+    pub stopped_obeys : (new : World) (e : RunEnd) → (IsUnserved e → ⊥) → held new ≡ mid → new.wire ≡ old.wire → new.wire_faults ≡ old.wire_faults → new.current ≡ old.current → new.reads ≡ old.reads → new.under_way ≡ under_way → failed_next reading [] e ≡ 0
         → old.shelf_faults ≤ new.shelf_faults → old.keeper_faults ≤ new.keeper_faults → (tells → IsSome mid.saved) → Ends told reading old new e [] → Obeyed told tells reading old new e []
-    stopped_obeys new e serves same wire faults reads way unasked shelf keeper tell ends = run_obeys new e [] serves (record {
+    stopped_obeys new e serves same wire faults current reads way unasked shelf keeper tell ends = run_obeys new e [] serves (record {
       told = tell;
       served = λ some. absurd (some refl);
       keeper_rose = rose_none mid.faults new.keeper_faults (omega (arith, ap (λ (z : Held). z.faults) same));
@@ -194,7 +213,7 @@ module _ (one : OneApplication) (law : ServedRunServes) (links : LinksOfSourceLe
       wire_later = omega (arith, faults);
       keeper_earlier = omega (arith, keeper, ap (λ (z : Held). z.faults) same);
       keeper_later = omega (arith, ap (λ (z : Held). z.faults) same);
-    }) (faults ∙ none_counted (failed_next reading [] e) old.wire_faults unasked) ends
+    }) (faults ∙ none_counted (failed_next reading [] e) old.wire_faults unasked) (λ none is. (wire, faults, current)) ends
 
 -- ---- how it ends
 
@@ -203,14 +222,14 @@ is_compiled told word settings old mid under_way s h =
     told_more told (λ files. (app : Typed) × Accepts files word app × IsCodeFor app s.code) (λ files. (app : Typed) × Accepts files word app × IsCoded app) h.coded
     (λ files x. (x.0, x.1, record { code = s.code; is_code = x.2 }))
 
-abbrev pub KeepsIts : Kept → Typed → Type 0
-KeepsIts kept app = (other : Schema) → kept ≡ Keeps other → other ≡ app.schema
+abbrev pub KeepsIts : KeptSchema → Typed → Type 0
+KeepsIts kept app = HasOther app.schema kept → ⊥
 
 pub keeps_its : (told : Option Files) (word : List ℕ) (settings : Settings) (old mid : Held) (under_way : Bool) (s : ServerState) → IsStarted told word settings old mid under_way s
     → OfFiles told word (KeepsIts old.kept)
 keeps_its told word settings old mid under_way s h =
     told_more told (λ files. (app : Typed) × Accepts files word app × IsCodeFor app s.code) (λ files. (app : Typed) × Accepts files word app × KeepsIts old.kept app) h.coded
-    (λ files x. (x.0, x.1, λ other is. same_schema s.code.schema other old.kept old.saved mid.saved h.server.attached is ∙ x.2.schema))
+    (λ files x. (x.0, x.1, λ other. no_other s.code.schema old.kept old.saved mid.saved h.server.attached (subst (λ z. HasOther z old.kept) (sym x.2.schema) other)))
 
 -- a session that was cut off counts
 pub cut_counts : (sessions : List SessionEnd) → Any IsCutOff sessions → 0 < wire_faults sessions
@@ -373,25 +392,33 @@ line_next port told told' faults faults' reading end.Sink h = refl
 line_next port told told' faults faults' reading end.Memory h = refl
 line_next port told told' faults faults' reading e h = absurd h
 
+-- what holds where memory was wanting
+replay_wants : (e e' : RunEnd) (sessions sessions' : List SessionEnd) (A : Type 0) → IsReplayed e sessions e' sessions' → (sessions ≡ [] → e ≡ end.Memory → A) → sessions ≡ [] → e' ≡ end.Memory → A
+replay_wants e e' sessions sessions' A (same, inl (is, cut)) wanting none wants = absurd (let two : end.Wire ≡ end.Memory = sym is ∙ wants in cc)
+replay_wants e e' sessions sessions' A (same, inr (is, whole)) wanting none wants = wanting none (sym is ∙ wants)
+
 -- ---- the two commands
 
 module _ (one : OneApplication) (law : ServedRunServes) (links : LinksOfSourceLead) (told : Option Files) (tells : Type 0) (word : List ℕ) (settings : Settings)
     (old : World) (mid : Held) (under_way : Bool) (s : ServerState) (started : IsStarted told word settings (held old) mid under_way s) (new : World) (sessions : List SessionEnd) where
   pub replay_obeys : (e e' : RunEnd) (sessions' : List SessionEnd) → HasRun tells 1 old mid s new sessions
-      → ServesOn 1 old.wire old.wire_faults new.wire_faults new.current e sessions → IsReplayed e sessions e' sessions' → Obeyed told tells (Some (Replay word settings)) old new e' sessions'
-  replay_obeys e e' sessions' h on replayed =
+      → ServesOn 1 old.wire old.wire_faults new.wire_faults new.current e sessions → IsReplayed e sessions e' sessions' → (sessions ≡ [] → e ≡ end.Memory → SameWire old new)
+      → Obeyed told tells (Some (Replay word settings)) old new e' sessions'
+  replay_obeys e e' sessions' h on replayed wanting =
       subst (λ z. Obeyed told tells (Some (Replay word settings)) old new e' z) (sym replayed.0)
       (run_obeys one law links told tells (Some (Replay word settings)) (record { project = word; settings = settings; most = 1 }) refl old mid under_way s started new e' sessions
       (replay_serves 1 old.wire old.wire_faults new.wire_faults new.current e e' sessions sessions' on replayed) h
       (replay_counts word settings old.wire old.wire_faults new.wire_faults new.current e e' sessions sessions' on replayed)
+      (replay_wants e e' sessions sessions' (SameWire old new) replayed wanting)
       (replay_ends told word settings old new sessions (is_compiled told word settings (held old) mid under_way s started) (keeps_its told word settings (held old) mid under_way s started)
       e e' sessions' on replayed))
 
   pub serve_obeys : (port most : ℕ) (e : RunEnd) → 0 < most → HasRun tells most old mid s new sessions
-      → ServesOn most old.wire old.wire_faults new.wire_faults new.current e sessions → Obeyed told tells (Some (Serve word port settings most)) old new e sessions
-  serve_obeys port most e some h on =
+      → ServesOn most old.wire old.wire_faults new.wire_faults new.current e sessions → (sessions ≡ [] → e ≡ end.Memory → SameWire old new)
+      → Obeyed told tells (Some (Serve word port settings most)) old new e sessions
+  serve_obeys port most e some h on wanting =
       run_obeys one law links told tells (Some (Serve word port settings most)) (record { project = word; settings = settings; most = most }) refl old mid under_way s started new e sessions
       (on_serves most old.wire old.wire_faults new.wire_faults new.current e sessions on) h
-      (serve_counts word settings old.wire old.wire_faults new.wire_faults new.current port most most e sessions on)
+      (serve_counts word settings old.wire old.wire_faults new.wire_faults new.current port most most e sessions on) wanting
       (serve_ends told word settings old new sessions (is_compiled told word settings (held old) mid under_way s started) (keeps_its told word settings (held old) mid under_way s started)
       port most e some on)

@@ -7,10 +7,10 @@ use Rattle.ur_io.specs.declared.session.SessionEnd.{SessionEnd}
 use Rattle.ur_words.specs.declared.reading.Reading.{Reading}
 use Rattle.ur_words.specs.declared.reading.Reading.TheVariants.{Check, Sites, Replay, Serve, Load}
 use Rattle.ur_values.specs.declared.schema.Schema.{Schema}
-use Rattle.ur_keeper.specs.Tables.{Tables, Kept, Untold, Empty, Keeps}
+use Rattle.ur_keeper.specs.Tables.{Tables, KeptSchema, Untold, Empty, Keeps, Spells}
 use Rattle.ur_keeper.specs.Keeper.{AttachesTo}
 use Rattle.ur_keeper.specs.declared.keeper.Attached.TheVariants.{Differs}
-use Rattle.ur_reports.specs.Texts as texts
+use Rattle.ur_words.specs.Texts as texts
 use Rattle.ur_headline.specs.Readings.{serving}
 use Rattle.ur_top.specs.Ends.{World, Ends, IsSaid, SaysAt, SaysMade, Reports}
 use Rattle.ur_top.specs.Prints.{Prints, Rises, first_line, IsKept}
@@ -21,10 +21,11 @@ abbrev pub rises_of : World → World → Rises
 rises_of old new = record { shelf = Rose old.shelf_faults new.shelf_faults; wire = Rose old.wire_faults new.wire_faults; keeper = Rose old.keeper_faults new.keeper_faults }
 
 -- the schema that differs is the kept one, where that was told
-is_kept : (kept application : Schema) (k : Kept) (saved saved' : Option Tables) → AttachesTo application k (Differs kept) saved saved' → IsKept k kept
+is_kept : (kept application : Schema) (k : KeptSchema) (saved saved' : Option Tables) → AttachesTo application k (Differs kept) saved saved' → IsKept k kept
 is_kept kept application Untold saved saved' h = tt
 is_kept kept application Empty saved saved' h = tt
 is_kept kept application (Keeps other) saved saved' h = sym h.0
+is_kept kept application (Spells text tables) saved saved' h = h.0
 
 module _ (told : Option Files) (reading : Option Reading) (old new : World) (sessions : List SessionEnd) (status : ℕ) where
   abbrev IsPrinted : ℕ → List ℕ → Type 0

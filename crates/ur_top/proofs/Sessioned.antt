@@ -10,20 +10,20 @@ use Rattle.ur_io.specs.declared.session.Why.{Why}
 use Rattle.ur_io.specs.declared.session.Why.TheVariants as why
 use Rattle.ur_io.specs.Calls.{count_after}
 use Rattle.ur_io.specs.Traffic.{Traffic, Opens, opened}
-use Rattle.ur_sessions.specs.Faults.{count_at_end}
-use Rattle.ur_sessions.specs.Programs.{IsSessionOn}
-use Rattle.ur_serve.specs.Program.{Holding, Served, ServedAnswers, ServedReaches}
+use Rattle.ur_serve.specs.Faults.{count_at_end}
+use Rattle.ur_serve.specs.Programs.{IsSessionOn}
+use Rattle.ur_serve.specs.Program.{Holding, ServedProgram, ServedAnswers, ServedReaches}
 use Rattle.ur_headline.specs.Counting.{is_keeper, keeper_fault, is_wire}
 use Rattle.ur_headline.proofs.Counting.{rose_none}
 use Rattle.ur_top.specs.Serving.{IsNext, HasNext, IsTaken}
 
 -- ---- the session
 
-abbrev pub HasSession : Served → ℕ → Option Traffic → Option Holding → SessionEnd → Option Traffic → Option Holding → Type 0
+abbrev pub HasSession : ServedProgram → ℕ → Option Traffic → Option Holding → SessionEnd → Option Traffic → Option Holding → Type 0
 HasSession p most told held s told' held' = WhereTold told (λ t. WhereTold held (λ now. Tells told' (λ u. Tells held' (λ after.
     IsSessionOn (ServedAnswers p) (ServedReaches p) (λ (h : Holding). h.store) most now t s after u))))
 
-pub next_session : (p : Served) (left : ℕ) (told0 told1 told2 told3 : Option Traffic) (held0 held1 : Option Holding) (s s' : SessionEnd) → WhereTold told0 (λ t. Opens t true told1)
+pub next_session : (p : ServedProgram) (left : ℕ) (told0 told1 told2 told3 : Option Traffic) (held0 held1 : Option Holding) (s s' : SessionEnd) → WhereTold told0 (λ t. Opens t true told1)
     → HasSession p (min 1000 left) told1 held0 s told2 held1 → told3 ≡ told2 → s' ≡ s → HasNext p left told0 held0 s' told3 held1
 next_session p left None told1 told2 told3 held0 held1 s s' opens session same is = tt
 next_session p left (Some t) told1 told2 told3 None held1 s s' opens session same is = tt

@@ -10,8 +10,8 @@ use Rattle.ur_io.specs.declared.session.SessionEnd.{SessionEnd}
 use Rattle.ur_words.specs.declared.reading.Reading.{Reading}
 use Rattle.ur_words.specs.declared.reading.Reading.TheVariants.{Check, Sites, Replay, Serve, Load}
 use Rattle.ur_values.specs.declared.schema.Schema.{Schema}
-use Rattle.ur_keeper.specs.Tables.{Tables, Kept, Empty, Keeps}
-use Rattle.ur_keeper.specs.Keeper.{AttachesTo}
+use Rattle.ur_keeper.specs.Tables.{Tables, KeptSchema, Untold, Empty, Keeps, Spells}
+use Rattle.ur_keeper.specs.Keeper.{AttachesTo, CanTake, HasOther}
 use Rattle.ur_keeper.specs.declared.keeper.Attached.TheVariants.{Differs}
 use Rattle.ur_tree.specs.declared.typed.Typed.{Typed}
 use Rattle.ur_compile.specs.Accepts.{Accepts, HasOneApplication}
@@ -20,7 +20,7 @@ use Rattle.ur_headline.specs.Counting.{wire_faults, next_failed, keeper_faults, 
 use Rattle.ur_headline.specs.Readings.{Serving, serving, IfServing, ForServing}
 use Rattle.ur_headline.proofs.Counting.{all_done_or_want}
 use Rattle.ur_top.specs.Sources.{ForReport, ForSource, OfSource, OfApplication, Compiles, IsCoded, IsCompiled, HasNoCode}
-use Rattle.ur_top.specs.Ends.{World, NoCalls, IsServed, IsWant, Ends, failed_next, IsStatus, IsUnserved, HasFiles}
+use Rattle.ur_top.specs.Ends.{World, NoCalls, SameWire, IsServed, IsWant, Ends, failed_next, IsStatus, IsUnserved, HasFiles}
 use Rattle.ur_top.specs.declared.reporting.RunEnd.{RunEnd}
 use Rattle.ur_top.specs.declared.reporting.RunEnd.TheVariants as end
 use Rattle.ur_top.proofs.Cases.{split, nothing_in, none_cut, told_is, told_more, if_serving, of_served, at_served, of_source, from_source, no_source, not_served, clashes, none_failed, one_failed}
@@ -105,35 +105,39 @@ module _ (told : Option Files) (reading : Option Reading) (old new : World) (ses
         let found = at_served told reading (λ files word. (app : Typed) × Accepts files word app × P app) files s t is h in
         subst P (one files s.project (found.0) app (found.1) a) (found.2)
 
-    kept_differs : (kept application schema : Schema) (k : Kept) (saved saved' : Option Tables) → application ≡ schema → k ≡ Keeps schema → AttachesTo application k (Differs kept) saved saved' → ⊥
-    kept_differs kept application schema k saved saved' same is h =
-        let at = subst (λ z. AttachesTo application z (Differs kept) saved saved') is h in
-        at.1 (sym same)
+    differs_not : (kept schema : Schema) (k : KeptSchema) (saved saved' : Option Tables) → CanTake schema k → AttachesTo schema k (Differs kept) saved saved' → ⊥
+    differs_not kept schema Untold saved saved' can h = can
+    differs_not kept schema Empty saved saved' can h = h
+    differs_not kept schema (Keeps k) saved saved' can h = h.1 can
+    differs_not kept schema (Spells text tables) saved saved' can h = h.1 can
+
+    kept_differs : (kept application schema : Schema) (k : KeptSchema) (saved saved' : Option Tables) → application ≡ schema → CanTake schema k → AttachesTo application k (Differs kept) saved saved' → ⊥
+    kept_differs kept application schema k saved saved' same can h = differs_not kept schema k saved saved' can (subst (λ z. AttachesTo z k (Differs kept) saved saved') same h)
 
     pub schema_only : (e : RunEnd) → EndsSo e → IsStatus e status → status ≡ 3
         → (serving reading ≢ None) × (new.saved ≡ old.saved) × (new.kept ≡ old.kept)
-        × (WhereTold told (λ files. ForServing reading (λ s. (app : Typed) → Accepts files s.project app → old.kept ≢ Keeps app.schema)))
+        × (WhereTold told (λ files. ForServing reading (λ s. (app : Typed) → Accepts files s.project app → CanTake app.schema old.kept → ⊥)))
     schema_only (end.Schema kept application) other s is = (
       other.serves,
       other.same_saved,
       other.same_kept,
-      of_served told reading (λ files s. (app : Typed) → Accepts files s.project app → old.kept ≢ Keeps app.schema)
-          (λ files s t at app a keeps. kept_differs kept application app.schema old.kept old.saved new.saved (its (λ app. application ≡ app.schema) files s app t at a other.its) keeps other.attaches),
+      of_served told reading (λ files s. (app : Typed) → Accepts files s.project app → CanTake app.schema old.kept → ⊥)
+          (λ files s t at app a can. kept_differs kept application app.schema old.kept old.saved new.saved (its (λ app. application ≡ app.schema) files s app t at a other.its) can other.attaches),
     )
     schema_only e ends s is = absurd (grind (arith, s, is))
 
     abbrev AsOther : Files → Serving → Type 0
-    AsOther files s = (app : Typed) → Compiles files s.project app → (other : Schema) → old.kept ≡ Keeps other → other ≢ app.schema
+    AsOther files s = (app : Typed) → Compiles files s.project app → HasOther app.schema old.kept
         → Contains (3 ∷ 4 ∷ 5 ∷ 7 ∷ 8 ∷ []) status × (sessions ≡ [])
 
     as_other : Contains (3 ∷ 4 ∷ 5 ∷ 7 ∷ 8 ∷ []) status → sessions ≡ [] → WhereTold told (λ files. ForServing reading (AsOther files))
-    as_other c none = of_served told reading AsOther (λ files s t at app a other keeps differs. (c, none))
+    as_other c none = of_served told reading AsOther (λ files s t at app a other. (c, none))
 
     not_here : serving reading ≡ None → WhereTold told (λ files. ForServing reading (AsOther files))
     not_here none = of_served told reading AsOther (λ files s t at. absurd (clashes reading s none at))
 
-    attached : OfApplication told reading (λ app. (other : Schema) → old.kept ≡ Keeps other → other ≡ app.schema) → WhereTold told (λ files. ForServing reading (AsOther files))
-    attached h = of_served told reading AsOther (λ files s t at app a other keeps differs. absurd (differs (its (λ app. (other : Schema) → old.kept ≡ Keeps other → other ≡ app.schema) files s app t at (a.0) h other keeps)))
+    attached : OfApplication told reading (λ app. HasOther app.schema old.kept → ⊥) → WhereTold told (λ files. ForServing reading (AsOther files))
+    attached h = of_served told reading AsOther (λ files s t at app a other. absurd (its (λ app. HasOther app.schema old.kept → ⊥) files s app t at (a.0) h other))
 
     -- where memory was wanting while serving, the schema that was kept is the application's
     as_wanting : Contains (3 ∷ 4 ∷ 5 ∷ 7 ∷ 8 ∷ []) status → IsWant told reading old new sessions → WhereTold told (λ files. ForServing reading (AsOther files))
@@ -152,7 +156,7 @@ module _ (told : Option Files) (reading : Option Reading) (old new : World) (ses
     schema (end.Checked routes) ((p, is, x), compiled, calls) s = not_here (check_serves reading p is)
     schema (end.Listed text) (listing, compiled, calls) s = not_here (sites_serves reading listing.project listing.asked)
     schema (end.Loaded r) ((seed, is, x), compiled, calls) s = not_here (load_serves reading seed r.requests is)
-    schema (end.Refused file r) (refuses, calls) s = of_served told reading AsOther (λ files s t at app a other keeps differs. absurd ((at_served told reading (λ files word. Refuses files word file r) files s t at refuses).none app (a.0) (a.1)))
+    schema (end.Refused file r) (refuses, calls) s = of_served told reading AsOther (λ files s t at app a other. absurd ((at_served told reading (λ files word. Refuses files word file r) files s t at refuses).none app (a.0) (a.1)))
     schema (end.Schema kept application) ends (inl s) = as_other (0, omega arith, sym s) ends.no_calls.none
     schema (end.Schema kept application) ends (inr (inl s)) = as_other (2, omega arith, sym s) ends.no_calls.none
     schema (end.Schema kept application) ends (inr (inr s)) = as_other (4, omega arith, sym s) ends.no_calls.none
@@ -365,6 +369,43 @@ module _ (told : Option Files) (reading : Option Reading) (old new : World) (ses
   statuses end.Memory (inl s) = (8, omega arith, sym s)
   statuses end.Memory (inr s) = (5, omega arith, sym s)
 
+  -- ---- the wire where there is no session
+
+  abbrev Uncalled : Type 0
+  Uncalled = SameWire old new
+
+  uncalled : NoCalls old new sessions → Uncalled
+  uncalled calls = (calls.same_wire, calls.same_faults, calls.same_current)
+
+  module _ (none : sessions ≡ []) where
+    pub memory_wanting : (e : RunEnd) → EndsSo e → IsStatus e status → (e ≡ end.Memory → Uncalled) → status ≡ 8 → Uncalled
+    memory_wanting end.Memory want s still is = still refl
+    memory_wanting end.Usage (wordless, calls) s still is = uncalled calls
+    memory_wanting (end.Checked routes) (x, compiled, calls) s still is = uncalled calls
+    memory_wanting (end.Listed text) (listing, compiled, calls) s still is = uncalled calls
+    memory_wanting (end.Loaded r) (x, compiled, calls) s still is = uncalled calls
+    memory_wanting (end.Refused file r) (refuses, calls) s still is = uncalled calls
+    memory_wanting (end.Schema kept application) other s still is = uncalled other.no_calls
+    memory_wanting end.Shelf (some, rose, calls) s still is = uncalled calls
+    memory_wanting end.Keeper (compiled, serves, rose, calls) s still is = uncalled calls
+    memory_wanting end.Sink (x, calls) s still is = uncalled calls
+    memory_wanting end.Wire fault s still is = absurd (grind (arith, s, is))
+    memory_wanting end.Done served s still is = absurd (grind (arith, s, is))
+
+    pub unsaid : (e : RunEnd) → EndsSo e → IsStatus e status → (e ≡ end.Memory → Uncalled) → status ≡ 5 → Uncalled ⊎ (new.current ≡ false)
+    unsaid end.Memory want s still is = inl (still refl)
+    unsaid end.Usage (wordless, calls) s still is = inl (uncalled calls)
+    unsaid (end.Checked routes) (x, compiled, calls) s still is = inl (uncalled calls)
+    unsaid (end.Listed text) (listing, compiled, calls) s still is = inl (uncalled calls)
+    unsaid (end.Loaded r) (x, compiled, calls) s still is = inl (uncalled calls)
+    unsaid (end.Refused file r) (refuses, calls) s still is = inl (uncalled calls)
+    unsaid (end.Schema kept application) other s still is = inl (uncalled other.no_calls)
+    unsaid end.Shelf (some, rose, calls) s still is = inl (uncalled calls)
+    unsaid end.Keeper (compiled, serves, rose, calls) s still is = inl (uncalled calls)
+    unsaid end.Sink (x, calls) s still is = inl (uncalled calls)
+    unsaid end.Wire fault s still is = inr fault.none_current
+    unsaid end.Done served s still is = inr served.none_current
+
   -- ---- completeness
 
   module _ (one : (files : Files) (project : List ℕ) → HasOneApplication files project) (sink : Type 0) (fault : status ≡ 5 → sink)
@@ -373,7 +414,7 @@ module _ (told : Option Files) (reading : Option Reading) (old new : World) (ses
     Whole s = Contains (0 ∷ 8 ∷ []) status × WhereTold old.wire (λ t. WantsMemory status sessions ⊎ IsWhole s.most (length t.coming) status sessions)
 
     abbrev AsWhole : Files → Serving → Type 0
-    AsWhole files s = (app : Typed) → Compiles files s.project app → (old.kept ≡ Empty) ⊎ (old.kept ≡ Keeps app.schema)
+    AsWhole files s = (app : Typed) → Compiles files s.project app → CanTake app.schema old.kept
         → ¬ (Rose old.shelf_faults new.shelf_faults) → ¬ (Rose old.wire_faults new.wire_faults) → ¬ (Rose old.keeper_faults new.keeper_faults) → ¬ sink → Whole s
 
     wanting : (s : Serving) → status ≡ 8 → Whole s
@@ -390,10 +431,6 @@ module _ (told : Option Files) (reading : Option Reading) (old new : World) (ses
         each t all (inl done) = inr (record { done = is; marked = done; all = all })
         each t all (inr wants) = inl (inr wants)
 
-    differs_not : (kept application schema : Schema) (k : Kept) (saved saved' : Option Tables) → application ≡ schema → (k ≡ Empty) ⊎ (k ≡ Keeps schema) → AttachesTo application k (Differs kept) saved saved' → ⊥
-    differs_not kept application schema k saved saved' same (inl is) h = subst (λ z. AttachesTo application z (Differs kept) saved saved') is h
-    differs_not kept application schema k saved saved' same (inr is) h = kept_differs one kept application schema k saved saved' same is h
-
     pub complete : (e : RunEnd) → EndsSo e → IsStatus e status → WhereTold told (λ files. ForServing reading (AsWhole files))
     complete e ends s = of_served told reading AsWhole (λ files to t at app c kept shelf wire none out. of_end e ends s files to t at app c kept shelf wire none out)
       where
@@ -407,7 +444,7 @@ module _ (told : Option Files) (reading : Option Reading) (old new : World) (ses
         of_end (end.Loaded r) ((seed, is, x), compiled, calls) s files to t at app c kept shelf wire none out = absurd (clashes reading to (load_serves reading seed r.requests is) at)
         of_end (end.Refused file r) (refuses, calls) s files to t at app c kept shelf wire none out = absurd ((at_served told reading (λ files word. Refuses files word file r) files to t at refuses).none app (c.0) (c.1))
         of_end (end.Schema other application) differs s files to t at app c kept shelf wire none out =
-            absurd (differs_not other application app.schema old.kept old.saved new.saved (its one (λ app. application ≡ app.schema) files to app t at (c.0) differs.its) kept differs.attaches)
+            absurd (kept_differs one other application app.schema old.kept old.saved new.saved (its one (λ app. application ≡ app.schema) files to app t at (c.0) differs.its) kept differs.attaches)
         of_end end.Shelf (some, rose, calls) s files to t at app c kept shelf wire none out = absurd (shelf rose)
         of_end end.Keeper (compiled, serves, rose, calls) s files to t at app c kept shelf wire none out = absurd (none rose)
         of_end end.Sink (x, calls) s files to t at app c kept shelf wire none out = absurd (out (fault s))

@@ -4,11 +4,12 @@ use Rattle.ur_io.specs.declared.session.SessionEnd.{SessionEnd}
 use Rattle.ur_io.specs.declared.session.Mark.TheVariants as mark
 use Rattle.ur_keeper.specs.Tables.{store_of}
 use Rattle.ur_keeper.specs.Memory.{Memory, kept_of}
-use Rattle.ur_patterns.specs.Patterns.{AreAllPatterns}
+use Rattle.ur_conditions.specs.Patterns.{AreAllPatterns}
 use Rattle.ur_tree.specs.declared.typed.Typed.{Typed}
 use Rattle.ur_words.specs.declared.reading.Settings.{Settings}
-use Rattle.ur_sessions.specs.Programs.{IsSession}
-use Rattle.ur_serve.specs.Program.{Holding, Served, ServedAnswers, ServedReaches}
+use Rattle.ur_serve.specs.Sessions.{most_of_one}
+use Rattle.ur_serve.specs.Programs.{IsSession}
+use Rattle.ur_serve.specs.Program.{Holding, ServedProgram, ServedAnswers, ServedReaches}
 use Rattle.ur_serve.specs.Serving.{ServerState, IsReadyWithin}
 use Rattle.ur_compile.specs.Accepts.{Accepts}
 use Rattle.ur_compile.specs.Explains.{Refuses}
@@ -37,14 +38,14 @@ IsReadyFor bound s m n = IsReadyWithin bound s (kept_of m.kept) m.under_way (Som
 -- ---- requests
 
 -- The request was answered, alone on its connection, and memory was not wanting.
-pub record IsAnswered (p : Served) (left : ℕ) (now : Holding) (bytes : List ℕ) (after : Holding) : Type 0 where
+pub record IsAnswered (p : ServedProgram) (left : ℕ) (now : Holding) (bytes : List ℕ) (after : Holding) : Type 0 where
   pub session : SessionEnd
   pub given : List ℕ
   pub one : session.marks ≡ mark.Done ∷ []
-  pub is : IsSession (ServedAnswers p) (ServedReaches p) (λ (h : Holding). h.store) (min 1000 left) now bytes session given after
+  pub is : IsSession (ServedAnswers p) (ServedReaches p) (λ (h : Holding). h.store) (min most_of_one left) now bytes session given after
 
 -- All of them were answered so, with so many scans in the end.
-pub record AreAnswered (p : Served) (start : Holding) (connections : List (List ℕ)) (reads : ℕ) : Type 0 where
+pub record AreAnswered (p : ServedProgram) (start : Holding) (connections : List (List ℕ)) (reads : ℕ) : Type 0 where
   pub sessions : List SessionEnd
   pub given : List (List ℕ)
   pub end : Holding

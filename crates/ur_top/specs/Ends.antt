@@ -11,15 +11,15 @@ use Rattle.ur_words.specs.declared.reading.Reading.{Reading}
 use Rattle.ur_words.specs.declared.reading.Reading.TheVariants.{Check, Sites, Replay, Serve, Load}
 use Rattle.ur_words.specs.declared.reading.Settings.{Settings}
 use Rattle.ur_values.specs.declared.schema.Schema.{Schema}
-use Rattle.ur_keeper.specs.Keeper.{AttachesTo}
+use Rattle.ur_keeper.specs.Keeper.{AttachesTo, HasOther}
 use Rattle.ur_keeper.specs.declared.keeper.Attached.TheVariants.{Differs}
-use Rattle.ur_keeper.specs.Tables.{Tables, Kept, Keeps}
-use Rattle.ur_patterns.specs.declared.patterns.Patterns.{Patterns}
-use Rattle.ur_patterns.specs.Patterns.{AreAllPatterns}
-use Rattle.ur_sites.specs.Texts.{sites_text}
+use Rattle.ur_keeper.specs.Tables.{Tables, KeptSchema}
+use Rattle.ur_conditions.specs.declared.patterns.Patterns.{Patterns}
+use Rattle.ur_conditions.specs.Patterns.{AreAllPatterns}
+use Rattle.ur_invalidate.specs.Texts.{sites_text}
 use Rattle.ur_sql.specs.declared.query.Query.{Query}
 use Rattle.ur_sql.specs.declared.change.Change.{Change}
-use Rattle.ur_reports.specs.Texts as texts
+use Rattle.ur_words.specs.Texts as texts
 use Rattle.ur_compile.specs.Explains.{Refuses}
 use Rattle.ur_headline.specs.Counting.{next_failed, IsCutOff, IsWireStatus, HasAllMarks}
 use Rattle.ur_headline.specs.Readings.{serving, ForServing}
@@ -35,11 +35,26 @@ pub record World : Type 0 where
   pub wire : Option Traffic
   pub current : Bool
   pub wire_faults : ℕ
-  pub kept : Kept
+  pub kept : KeptSchema
   pub saved : Option Tables
   pub reads : ℕ
   pub under_way : Bool
   pub keeper_faults : ℕ
+
+-- the same, of the devices by what their traits tell
+abbrev pub world : {S W K : Type 0} → (S → ℕ) → (W → Option Traffic) → (W → Bool) → (W → ℕ) → (K → KeptSchema) → (K → Option Tables) → (K → ℕ) → (K → Bool) → (K → ℕ)
+    → S → W → K → World
+world shelf_faults wire current wire_faults kept saved reads under_way keeper_faults s w k = record {
+  shelf_faults = shelf_faults s;
+  wire = wire w;
+  current = current w;
+  wire_faults = wire_faults w;
+  kept = kept k;
+  saved = saved k;
+  reads = reads k;
+  under_way = under_way k;
+  keeper_faults = keeper_faults k;
+}
 
 -- the command reads files
 abbrev pub HasFiles : Option Reading → Type 0
@@ -54,9 +69,13 @@ pub record NoCalls (old new : World) (sessions : List SessionEnd) : Type 0 where
   pub same_faults : new.wire_faults ≡ old.wire_faults
   pub same_current : new.current ≡ old.current
 
--- the schema that the keeper told is the application's
+-- the wire was not called
+abbrev pub SameWire : World → World → Type 0
+SameWire old new = (new.wire ≡ old.wire) × (new.wire_faults ≡ old.wire_faults) × (new.current ≡ old.current)
+
+-- the keeper told no other schema than the application's
 abbrev pub AttachedTo : Option Files → Option Reading → World → Type 0
-AttachedTo told reading old = OfApplication told reading (λ app. (other : Schema) → old.kept ≡ Keeps other → other ≡ app.schema)
+AttachedTo told reading old = OfApplication told reading (λ app. HasOther app.schema old.kept → ⊥)
 
 -- all connections that were allowed are served, or the run's requests are over
 pub record IsServed (told : Option Files) (reading : Option Reading) (old new : World) (sessions : List SessionEnd) : Type 0 where

@@ -1,3 +1,4 @@
+pub mod Requests
 pub mod Notes
 pub mod Loads
 pub mod Sources
@@ -6,4 +7,5 @@ pub mod Ends
 pub mod Serving
 pub mod Starting
 pub mod Obeyed
+pub mod Runs
 pub mod Asking

@@ -3,12 +3,12 @@ use Rattle.std.specs.Prelude.{◌≡◌, ℕ, List, length, All}
 use Rattle.ur_io.specs.declared.session.SessionEnd.{SessionEnd}
 use Rattle.ur_io.specs.declared.session.Mark.TheVariants as mark
 use Rattle.ur_values.specs.Store.{empty_store}
-use Rattle.ur_patterns.specs.declared.patterns.Patterns.{Patterns}
-use Rattle.ur_patterns.specs.Patterns.{AreAllPatterns}
+use Rattle.ur_conditions.specs.declared.patterns.Patterns.{Patterns}
+use Rattle.ur_conditions.specs.Patterns.{AreAllPatterns}
 use Rattle.ur_tree.specs.declared.typed.Typed.{Typed}
 use Rattle.ur_serve.specs.Program.{Holding, fresh}
-use Rattle.ur_workload.specs.Requests.{requests}
-use Rattle.ur_reports.specs.declared.counts.LoadReport.{LoadReport}
+use Rattle.ur_top.specs.Requests.{requests}
+use Rattle.ur_words.specs.declared.counts.LoadReport.{LoadReport}
 use Rattle.ur_compile.specs.Accepts.{Accepts}
 use Rattle.ur_headline.specs.Source.{AreCachedSessions}
 use Rattle.ur_top.specs.Notes.{notes_files, notes_word}

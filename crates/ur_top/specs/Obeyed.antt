@@ -8,21 +8,17 @@ use Rattle.ur_io.specs.declared.session.SessionEnd.{SessionEnd}
 use Rattle.ur_words.specs.declared.reading.Reading.{Reading}
 use Rattle.ur_values.specs.declared.schema.Schema.{Schema}
 use Rattle.ur_keeper.specs.Tables.{Keeps, store_of}
-use Rattle.ur_tree.specs.declared.typed.Typed.{Typed}
-use Rattle.ur_compile.specs.Accepts.{Accepts}
 use Rattle.ur_headline.specs.Counting.{keeper_faults, wire_faults}
-use Rattle.ur_headline.specs.Readings.{Serving, serving, ForServing}
+use Rattle.ur_headline.specs.Readings.{serving, ForServing}
 use Rattle.ur_headline.specs.Serves.{Serves, IsAttached}
 use Rattle.ur_headline.specs.Source.{LinksLead}
-use Rattle.ur_top.specs.Ends.{World, Ends, failed_next, IsUnserved}
+use Rattle.ur_top.specs.Ends.{World, SameWire, Ends, failed_next, IsUnserved}
 use Rattle.ur_top.specs.Serving.{HasFewRequests}
+use Rattle.ur_top.specs.Sources.{ForApplication}
 use Rattle.ur_top.specs.declared.reporting.RunEnd.{RunEnd}
+use Rattle.ur_top.specs.declared.reporting.RunEnd.TheVariants as end
 
--- P of what is served and of the application that the files are
-abbrev pub ForApplication : Option Files → Option Reading → (Serving → Typed → Type 0) → Type 0
-ForApplication told reading P = WhereTold told (λ files. ForServing reading (λ s. (app : Typed) → Accepts files s.project app → P s app))
-
--- `tells`: the keeper is of a type that tells its tables wherever it tells a schema.
+-- `tells`: the keeper told what its store has.
 pub record Obeyed (told : Option Files) (tells : Type 0) (reading : Option Reading) (old new : World) (e : RunEnd) (sessions : List SessionEnd) : Type 0 where
   pub serves : ForApplication told reading (λ s app. sessions ≢ [] → tells → WhereTold old.wire (λ t. Tells new.saved (λ after.
       Serves app s.settings old.kept old.saved t sessions new.wire (store_of after) old.reads new.reads)))
@@ -35,6 +31,8 @@ pub record Obeyed (told : Option Files) (tells : Type 0) (reading : Option Readi
   -- a command that serves nothing leaves all but the shelf
   pub no_serving : serving reading ≡ None → (sessions ≡ []) × (new ≡ record old { shelf_faults = new.shelf_faults })
   pub idle : sessions ≡ [] → WhereTold old.wire (λ t. new.wire ≡ Option.Some t) × (new.reads ≡ old.reads)
+  -- memory was wanting before the wire was called
+  pub wanting : sessions ≡ [] → e ≡ end.Memory → SameWire old new
   pub attached : ForApplication told reading (λ s app. sessions ≡ [] → IsAttached app.schema old.kept old.saved new.saved)
   pub unserved : IsUnserved e → (new.saved ≡ old.saved) × (new.kept ≡ old.kept)
   pub left : sessions ≡ [] → (schema : Schema) × IsAttached schema old.kept old.saved new.saved

@@ -8,14 +8,15 @@ use Rattle.ur_words.specs.declared.reading.Reading.{Reading}
 use Rattle.ur_words.specs.declared.reading.Reading.TheVariants.{Check, Sites, Replay, Serve, Load}
 use Rattle.ur_words.specs.declared.reading.Settings.{Settings}
 use Rattle.ur_values.specs.declared.schema.Schema.{Schema}
-use Rattle.ur_keeper.specs.Tables.{Kept, Keeps}
-use Rattle.ur_patterns.specs.declared.patterns.Patterns.{Patterns}
-use Rattle.ur_patterns.specs.Patterns.{AreAllPatterns}
-use Rattle.ur_sites.specs.Texts.{sites_text}
+use Rattle.ur_values.specs.SchemaText.{schema_text}
+use Rattle.ur_keeper.specs.Tables.{KeptSchema, Keeps, Spells}
+use Rattle.ur_conditions.specs.declared.patterns.Patterns.{Patterns}
+use Rattle.ur_conditions.specs.Patterns.{AreAllPatterns}
+use Rattle.ur_invalidate.specs.Texts.{sites_text}
 use Rattle.ur_sql.specs.declared.query.Query.{Query}
 use Rattle.ur_sql.specs.declared.change.Change.{Change}
-use Rattle.ur_reports.specs.declared.counts.LoadReport.{LoadReport}
-use Rattle.ur_reports.specs.Texts as texts
+use Rattle.ur_words.specs.declared.counts.LoadReport.{LoadReport}
+use Rattle.ur_words.specs.Texts as texts
 use Rattle.ur_compile.specs.Explains.{Refuses}
 use Rattle.ur_headline.specs.Counting.{IsWireStatus}
 use Rattle.ur_top.specs.Sources.{OfSource, OfApplication}
@@ -26,9 +27,10 @@ abbrev pub first_line : Option Reading → List ℕ
 first_line (Some (Serve p port s n)) = texts.serving_line port
 first_line reading = []
 
--- the schema is the kept one, where that is told
-abbrev pub IsKept : Kept → Schema → Type 0
+-- the schema is the kept one, where that or its text is told
+abbrev pub IsKept : KeptSchema → Schema → Type 0
 IsKept (Keeps k) schema = k ≡ schema
+IsKept (Spells text tables) schema = text ≡ schema_text schema
 IsKept kept schema = ⊤
 
 -- whether the counts of faults of the shelf, the wire and the keeper rose
@@ -39,7 +41,7 @@ pub record Rises : Type 1 where
 
 -- What a run prints at each status, with its cause. At status 5 a write failed within the text that was due, which is one of the
 -- others. `kept` is the schema that the keeper told before.
-pub data Prints (told : Option Files) (kept : Kept) (reading : Option Reading) (rises : Rises) (sessions : List SessionEnd) : ℕ → List ℕ → Type 0 where
+pub data Prints (told : Option Files) (kept : KeptSchema) (reading : Option Reading) (rises : Rises) (sessions : List SessionEnd) : ℕ → List ℕ → Type 0 where
   served : (p : List ℕ) (port : ℕ) (s : Settings) (n : ℕ) → reading ≡ Some (Serve p port s n) → Prints told kept reading rises sessions 0 (texts.serving_line port)
   replayed : (p : List ℕ) (s : Settings) → reading ≡ Some (Replay p s) → Prints told kept reading rises sessions 0 []
   checked : (p : List ℕ) (routes : ℕ) → reading ≡ Some (Check p) → OfApplication told reading (λ app. routes ≡ length app.handlers.routes)

@@ -6,14 +6,15 @@ use Rattle.ur_io.specs.declared.session.SessionEnd.{SessionEnd}
 use Rattle.ur_io.specs.Calls.{count_after}
 use Rattle.ur_io.specs.Traffic.{Traffic, Opens}
 use Rattle.ur_io.specs.Fronts.{IsFront}
-use Rattle.ur_reports.specs.Texts as texts
-use Rattle.ur_sessions.specs.Programs.{IsSessionOn}
-use Rattle.ur_serve.specs.Program.{Holding, Served, ServedAnswers, ServedReaches}
+use Rattle.ur_words.specs.Texts as texts
+use Rattle.ur_serve.specs.Sessions.{most_requests, most_of_one}
+use Rattle.ur_serve.specs.Programs.{IsSessionOn}
+use Rattle.ur_serve.specs.Program.{Holding, ServedProgram, ServedAnswers, ServedReaches}
 use Rattle.ur_headline.specs.Counting.{wire_faults, marks_of, HasAllMarks, IsCutOff}
 use Rattle.ur_top.specs.declared.reporting.RunEnd.{RunEnd}
 use Rattle.ur_top.specs.declared.reporting.RunEnd.TheVariants as end
-use Rattle.ur_top.specs.declared.one.Next.{Next}
-use Rattle.ur_top.specs.declared.one.Next.TheVariants as next
+use Rattle.ur_top.specs.declared.next_connection.Next.{Next}
+use Rattle.ur_top.specs.declared.next_connection.Next.TheVariants as next
 
 -- ---- one connection
 
@@ -28,14 +29,14 @@ IfOver (next.Served s) P = ⊤
 IfOver (next.Over e) P = P e
 
 -- The wire's next connection became current, and the session on it is one of what a server holds, by so many answers and no more
--- than 1,000.
-pub record IsNext (p : Served) (left : ℕ) (now : Holding) (t : Traffic) (s : SessionEnd) (after : Holding) (u : Traffic) : Type 0 where
+-- than a connection has.
+pub record IsNext (p : ServedProgram) (left : ℕ) (now : Holding) (t : Traffic) (s : SessionEnd) (after : Holding) (u : Traffic) : Type 0 where
   pub opened : Traffic
   pub opens : Opens t true (Some opened)
-  pub session : IsSessionOn (ServedAnswers p) (ServedReaches p) (λ (h : Holding). h.store) (min 1000 left) now opened s after u
+  pub session : IsSessionOn (ServedAnswers p) (ServedReaches p) (λ (h : Holding). h.store) (min most_of_one left) now opened s after u
 
 -- the same of what is told before and after, where it is
-abbrev pub HasNext : Served → ℕ → Option Traffic → Option Holding → SessionEnd → Option Traffic → Option Holding → Type 0
+abbrev pub HasNext : ServedProgram → ℕ → Option Traffic → Option Holding → SessionEnd → Option Traffic → Option Holding → Type 0
 HasNext p left told held s told' held' = WhereTold told (λ t. WhereTold held (λ now. Tells told' (λ u. Tells held' (λ after. IsNext p left now t s after u))))
 
 -- one connection was taken
@@ -53,7 +54,7 @@ IsOver told told' faults faults' current current' other = ⊥
 
 -- no more requests than a run and a connection may have
 abbrev pub HasFewRequests : List SessionEnd → Type 0
-HasFewRequests sessions = (marks_of sessions ≤ 16777216) × All (λ s. length s.marks ≤ 1000) sessions
+HasFewRequests sessions = (marks_of sessions ≤ most_requests) × All (λ s. length s.marks ≤ most_of_one) sessions
 
 -- Why no connection is served any more: all that were allowed are, the wire failed at `next`, or memory is wanting. The wire's count rose by
 -- the sessions that were cut off, and by one more where `next` failed.

@@ -7,12 +7,12 @@ use Rattle.ur_words.specs.declared.reading.Settings.{Settings}
 use Rattle.ur_values.specs.declared.schema.Schema.{Schema}
 use Rattle.ur_keeper.specs.Keeper.{AttachesTo}
 use Rattle.ur_keeper.specs.declared.keeper.Attached.TheVariants.{Ready, Differs}
-use Rattle.ur_keeper.specs.Tables.{Tables, Kept, AreSound, NumbersUpTo}
+use Rattle.ur_keeper.specs.Tables.{Tables, KeptSchema, AreSound, NumbersUpTo}
 use Rattle.ur_tags.specs.Routes.{AreRoutes}
 use Rattle.ur_code.specs.declared.code.Code.{Code}
-use Rattle.ur_patterns.specs.declared.patterns.Patterns.{Patterns}
-use Rattle.ur_patterns.specs.Patterns.{AreAllPatterns}
-use Rattle.ur_sites.specs.Texts.{sites_text}
+use Rattle.ur_conditions.specs.declared.patterns.Patterns.{Patterns}
+use Rattle.ur_conditions.specs.Patterns.{AreAllPatterns}
+use Rattle.ur_invalidate.specs.Texts.{sites_text}
 use Rattle.ur_sql.specs.declared.query.Query.{Query}
 use Rattle.ur_sql.specs.declared.change.Change.{Change}
 use Rattle.ur_serve.specs.Serving.{ServerState, IsReady}
@@ -67,7 +67,7 @@ IsLoadEnd seed n e = ⊥
 
 -- what a keeper tells, and its count of faults
 pub record Held : Type 0 where
-  pub kept : Kept
+  pub kept : KeptSchema
   pub saved : Option Tables
   pub faults : ℕ
 

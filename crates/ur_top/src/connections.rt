@@ -6,11 +6,12 @@ ghost use Rattle.ur_keeper.specs.Tables.{NumbersUpTo, store_of};
 ghost use Rattle.ur_serve.specs.Serving.{IsReady};
 ghost use Rattle.ur_headline.specs.Counting.{keeper_faults, IsCutOff};
 ghost use Rattle.ur_headline.specs.Served.{HasServed};
+ghost use Rattle.ur_top.specs.Runs.{IsUncalled};
 ghost use Rattle.ur_top.specs.Serving.{HasFewRequests, ServesOn};
 
-use crate::one::{Next, serve_next};
+use crate::next_connection::{Next, serve_next};
 use crate::reporting::RunEnd;
-use crate::serving::{Served, unserved};
+use crate::serving::{EndedServing, unserved};
 use std::alloc::Global;
 use ur_base::{List, Room};
 use ur_http::Splitter;
@@ -19,7 +20,7 @@ use ur_keeper::Keeper;
 use ur_serve::Server;
 
 /// The most requests that a run answers.
-const MOST_REQUESTS: usize = 16_777_216;
+pub(crate) const MOST_REQUESTS: u32 = 16_777_216;
 
 /// Serves so many connections at most, and as long as requests may be answered. Room for what is kept of them is taken first.
 pub(crate) fn serve_connections<W: Wire, K: Keeper>(
@@ -28,7 +29,7 @@ pub(crate) fn serve_connections<W: Wire, K: Keeper>(
     most: u32,
     wire: &mut W,
     keeper: &mut K,
-) -> Served
+) -> EndedServing
     requires ready { IsReady server (K.kept keeper.old) (K.under_way keeper.old) (K.saved keeper.old) }
     requires numbers { WhereTold (K.saved keeper.old) (NumbersUpTo 4611686018427387904) }
     requires units { server.steps ≤ 4294967295 }
@@ -40,6 +41,8 @@ pub(crate) fn serve_connections<W: Wire, K: Keeper>(
     ensures few { length result.sessions ≤ most }
     ensures requests { HasFewRequests result.sessions }
     ensures idle { result.sessions ≡ [] → WhereTold (W.told wire.old) (λ t. W.told wire.new ≡ Some t) × (K.reads keeper.new ≡ K.reads keeper.old) × (K.saved keeper.new ≡ K.saved keeper.old) }
+    // Memory was wanting before a connection was asked for.
+    ensures wanting { result.sessions ≡ [] → result.end ≡ RunEnd.Memory → IsUncalled W.told W.faults W.is_current wire.old wire.new }
     ensures kept { K.kept keeper.new ≡ K.kept keeper.old }
     ensures at_rest { K.under_way keeper.new ≡ false }
     ensures never_fall { (W.faults wire.old ≤ W.faults wire.new) × (K.faults keeper.old ≤ K.faults keeper.new) }
@@ -50,7 +53,7 @@ pub(crate) fn serve_connections<W: Wire, K: Keeper>(
     let Ok(mut sessions) = Room::new(alloc, most as usize) else {
         return unserved(alloc, RunEnd::Memory);
     };
-    let mut left = MOST_REQUESTS;
+    let mut left = MOST_REQUESTS as usize;
     for _turn in 0..most {
         if left == 0 {
             return served(RunEnd::Done, sessions);
@@ -66,10 +69,10 @@ pub(crate) fn serve_connections<W: Wire, K: Keeper>(
     served(RunEnd::Done, sessions)
 }
 
-fn served(end: RunEnd, sessions: Room<SessionEnd>) -> Served
+fn served(end: RunEnd, sessions: Room<SessionEnd>) -> EndedServing
     ensures { result ≡ record { end = end; sessions = sessions.items } }
 {
-    Served {
+    EndedServing {
         end,
         sessions: sessions.list(),
     }

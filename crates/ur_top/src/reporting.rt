@@ -7,11 +7,11 @@ ghost use Rattle.ur_top.specs.Ends.{IsStatus, Reports, SaysAt, SaysOf};
 use std::alloc::Global;
 use ur_base::{Bytes, Memory, Refusal, Text};
 use ur_io::{Sink, print};
-use ur_reports::{
+use ur_values::Schema;
+use ur_words::{
     LoadReport, check_report, keeper_fault, load_report, memory, refusal_line, schema_report,
     shelf_fault, usage, wire_fault,
 };
-use ur_values::Schema;
 
 /// How a run ends, before its report.
 #[derive(Drop)]

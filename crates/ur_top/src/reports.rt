@@ -1,17 +1,17 @@
 //! The commands that compile a project and tell of it.
 ghost use Rattle.std.specs.Prelude.{◌≡◌, ◌≤◌};
-ghost use Rattle.ur_answers.specs.Answers.{ArePatternsOf};
+ghost use Rattle.ur_machine.specs.Answers.{ArePatternsOf};
 ghost use Rattle.ur_compile.specs.Kept.{IsCodeFor};
 ghost use Rattle.ur_top.specs.Sources.{OfFiles};
 ghost use Rattle.ur_top.specs.Starting.{IsChecked, IsSited};
 
-use crate::compiled::compiled;
+use crate::compiling::compiled;
 use crate::reporting::RunEnd;
 use std::alloc::Global;
 use ur_base::Text;
 use ur_compile::Compiled;
+use ur_invalidate::sites_text;
 use ur_io::Shelf;
-use ur_sites::sites_text;
 
 /// How many routes the project has.
 pub(crate) fn check<S: Shelf>(alloc: Global, shelf: &mut S, project: &Text) -> RunEnd

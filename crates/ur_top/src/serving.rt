@@ -2,41 +2,40 @@
 ghost use Rattle.std.specs.Prelude.{◌≡◌, ◌≢◌, ◌≤◌, ◌<◌, ℕ, false, List, [], ◌++◌, Some, IfOk, OnOk, IfErr, OnErr, Any};
 ghost use Rattle.ur_base.specs.Counts.{Rose};
 ghost use Rattle.ur_base.specs.Told.{WhereTold};
-ghost use Rattle.ur_reports.specs.Texts as texts;
+ghost use Rattle.ur_words.specs.Texts as texts;
 ghost use Rattle.ur_words.specs.declared.reading.Reading.TheVariants as reading;
 ghost use Rattle.ur_headline.specs.Counting.{IsCutOff};
-ghost use Rattle.ur_headline.specs.Serves.{TellsTables};
-ghost use Rattle.ur_top.specs.Ends.{IsSaid};
+ghost use Rattle.ur_keeper.specs.Keeper.{TellsStore};
+ghost use Rattle.ur_top.specs.Ends.{world, IsSaid};
 ghost use Rattle.ur_top.specs.Serving.{IsReplayed, IsUnsaid};
 ghost use Rattle.ur_top.specs.Starting.{IsStarted, Unstarted};
 ghost use Rattle.ur_top.specs.Obeyed.{Obeyed};
 
-use crate::compiled::compiled;
+use crate::attaching::start;
+use crate::compiling::compiled;
 use crate::connections::{serve_connections, was_cut_off};
 use crate::reporting::RunEnd;
-use crate::starting::start;
 use std::alloc::Global;
 use ur_base::{List, Memory, Text};
 use ur_compile::one_application;
 use ur_headline::{links_of_source_lead, served_run_serves};
 use ur_io::{SessionEnd, Shelf, Sink, Wire, print};
 use ur_keeper::Keeper;
-use ur_reports::serving_line;
 use ur_serve::Server;
-use ur_words::Settings;
+use ur_words::{Settings, serving_line};
 
 /// How serving ended, and its sessions.
 #[derive(Drop)]
-pub(crate) struct Served {
+pub(crate) struct EndedServing {
     pub end: RunEnd,
     pub sessions: List<SessionEnd>,
 }
 
 /// The end of a run without a session.
-pub(crate) fn unserved(alloc: Global, end: RunEnd) -> Served
+pub(crate) fn unserved(alloc: Global, end: RunEnd) -> EndedServing
     ensures { result ≡ record { end = end; sessions = [] } }
 {
-    Served {
+    EndedServing {
         end,
         sessions: List::new(alloc),
     }
@@ -50,11 +49,11 @@ pub(crate) fn replay<S: Shelf, W: Wire, K: Keeper>(
     shelf: &mut S,
     wire: &mut W,
     keeper: &mut K,
-) -> Served
+) -> EndedServing
     requires { K.under_way keeper.old ≡ false }
-    ensures obeyed { Obeyed (S.told shelf.old) (TellsTables K K.kept K.saved) (Some (reading.Replay project.now settings.now))
-        (record { shelf_faults = S.faults shelf.old; wire = W.told wire.old; current = W.is_current wire.old; wire_faults = W.faults wire.old; kept = K.kept keeper.old; saved = K.saved keeper.old; reads = K.reads keeper.old; under_way = K.under_way keeper.old; keeper_faults = K.faults keeper.old })
-        (record { shelf_faults = S.faults shelf.new; wire = W.told wire.new; current = W.is_current wire.new; wire_faults = W.faults wire.new; kept = K.kept keeper.new; saved = K.saved keeper.new; reads = K.reads keeper.new; under_way = K.under_way keeper.new; keeper_faults = K.faults keeper.new })
+    ensures obeyed { Obeyed (S.told shelf.old) (TellsStore (K.kept keeper.old) (K.saved keeper.old)) (Some (reading.Replay project.now settings.now))
+        (world S.faults W.told W.is_current W.faults K.kept K.saved K.reads K.under_way K.faults shelf.old wire.old keeper.old)
+        (world S.faults W.told W.is_current W.faults K.kept K.saved K.reads K.under_way K.faults shelf.new wire.new keeper.new)
         result.end result.sessions }
     ensures files_kept { S.told shelf.new ≡ S.told shelf.old }
 {
@@ -68,16 +67,16 @@ pub(crate) fn replay<S: Shelf, W: Wire, K: Keeper>(
 }
 
 /// What a replay comes to, of what its serving came to.
-fn replayed(served: Served) -> Served
+fn replayed(served: EndedServing) -> EndedServing
     ensures { IsReplayed served.end served.sessions result.end result.sessions }
 {
-    let Served { end, sessions } = served;
+    let EndedServing { end, sessions } = served;
     let end = if was_cut_off(&sessions) {
         RunEnd::Wire
     } else {
         end
     };
-    Served { end, sessions }
+    EndedServing { end, sessions }
 }
 
 /// Prints the first line, and serves so many connections at most.
@@ -91,12 +90,12 @@ pub(crate) fn serve<S: Shelf, W: Wire, K: Keeper, O: Sink>(
     wire: &mut W,
     keeper: &mut K,
     out: &mut O,
-) -> Served
+) -> EndedServing
     requires at_rest { K.under_way keeper.old ≡ false }
     requires some { 0 < most }
-    ensures obeyed { Obeyed (S.told shelf.old) (TellsTables K K.kept K.saved) (Some (reading.Serve project.now port settings.now most))
-        (record { shelf_faults = S.faults shelf.old; wire = W.told wire.old; current = W.is_current wire.old; wire_faults = W.faults wire.old; kept = K.kept keeper.old; saved = K.saved keeper.old; reads = K.reads keeper.old; under_way = K.under_way keeper.old; keeper_faults = K.faults keeper.old })
-        (record { shelf_faults = S.faults shelf.new; wire = W.told wire.new; current = W.is_current wire.new; wire_faults = W.faults wire.new; kept = K.kept keeper.new; saved = K.saved keeper.new; reads = K.reads keeper.new; under_way = K.under_way keeper.new; keeper_faults = K.faults keeper.new })
+    ensures obeyed { Obeyed (S.told shelf.old) (TellsStore (K.kept keeper.old) (K.saved keeper.old)) (Some (reading.Serve project.now port settings.now most))
+        (world S.faults W.told W.is_current W.faults K.kept K.saved K.reads K.under_way K.faults shelf.old wire.old keeper.old)
+        (world S.faults W.told W.is_current W.faults K.kept K.saved K.reads K.under_way K.faults shelf.new wire.new keeper.new)
         result.end result.sessions }
     ensures said { WhereTold (O.told out.old) (λ before. (text : List ℕ) × (O.told out.new ≡ Some (before ++ text))
         × IsSaid (Some (reading.Serve project.now port settings.now most)) result.end text) }

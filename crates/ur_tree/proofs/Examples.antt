@@ -1,44 +1,74 @@
--- Small expressions with their types.
-use Rattle.std.proofs.Common.{◌≡◌, refl, true, false, [], ◌∷◌, Some, None, arith}
-use Rattle.std.specs.Prelude.{pos}
-use Rattle.ur_terms.specs.declared.term.Pattern.TheVariants as pattern
+-- Small types as they are written, the row of a query, and what may stand where.
+use Rattle.std.proofs.Common.{◌≡◌, refl, [], ◌∷◌, Some, None}
+use Rattle.std.specs.Prelude.{codes, pos}
+use Rattle.ur_values.specs.declared.schema.ColumnKind.TheVariants as kind
+use Rattle.ur_values.specs.declared.value.Tag.TheVariants as tag
+use Rattle.ur_values.specs.declared.value.Value.TheVariants as v
+use Rattle.ur_sql.specs.declared.scalar.Comparison.TheVariants as compare
+use Rattle.ur_sql.specs.declared.scalar.Scalar.{more_of-Scalar as one, end_of-Scalar as end}
+use Rattle.ur_sql.specs.declared.scalar.Scalar.TheVariants as s
+use Rattle.ur_sql.specs.declared.query.Query.{Query}
+use Rattle.ur_sql.specs.declared.query.Field.TheVariants as field
+use Rattle.ur_sql.specs.declared.query.Aggregate.TheVariants as agg
+use Rattle.ur_rows.specs.declared.normal.Label.TheVariants as label
 use Rattle.ur_rows.specs.declared.normal.NormalType.TheVariants as ty
-use Rattle.ur_rows.specs.Types.{option_of}
-use Rattle.ur_tree.specs.declared.exp.Exp.TheVariants as exp
-use Rattle.ur_tree.specs.declared.exp.Unary.TheVariants as unary
-use Rattle.ur_tree.specs.declared.exp.Binary.TheVariants as binary
-use Rattle.ur_tree.specs.Make as make
-use Rattle.ur_tree.specs.Heads.{Declared}
-use Rattle.ur_tree.specs.App.{nothing_in_scope}
-use Rattle.ur_tree.specs.IsStatic.{wants_type}
-use Rattle.ur_tree.specs.Patterns.{bound_by, has_all, constructors_of, last_is_any}
-use Rattle.ur_tree.specs.Typing.{Finds, Checks}
+use Rattle.ur_rows.specs.Made as made
+use Rattle.ur_tree.specs.FieldNames.{capital}
+use Rattle.ur_tree.specs.Places.{in_body, in_table, in_form, inside, fields_found}
+use Rattle.ur_tree.specs.QueryRow.{query_row}
+use Rattle.ur_tree.specs.Text.{type_text, row_text}
 
-abbrev nothing_declared : Declared
-nothing_declared = record { variants = []; cookies = []; vals = []; functions = []; sequences = 0; queries = []; changes = [] }
+-- ---- how types are written
 
--- `1 + 2`
-sum : Finds nothing_declared 10 nothing_in_scope (make.binary binary.Add (exp.Int (pos 1)) (exp.Int (pos 2))) ty.Int
-sum = (refl, (refl, (omega arith, refl, refl)), (refl, (omega arith, refl, refl)))
+record_text : type_text [] (made.record_of (made.field (label.Literal (codes "A")) ty.Int ∷ made.field (label.Literal (codes "B")) made.unit ∷ [])) ≡ codes "$[A = (int); B = ($[]); ]"
+record_text = refl
 
--- `Some None` has no found type, and none is found of it in a form
-without_type : wants_type (make.unary unary.Present (exp.Absent ty.Int)) ≡ true
-without_type = refl
+row_alone : row_text [] (made.field (label.Literal (codes "A")) ty.Int ∷ []) ≡ codes "[A = (int); ]"
+row_alone = refl
 
--- `None` checks against an option
-absent : Checks nothing_declared 10 nothing_in_scope (exp.Absent (option_of ty.Int)) (option_of ty.Int)
-absent = (refl, (ty.Int, refl))
+arrow_text : type_text (codes "color" ∷ []) (made.arrow_of (made.option_of (ty.Datatype 0)) (made.transaction_of ty.Page)) ≡ codes "(option (color)) -> (transaction (page))"
+arrow_text = refl
 
--- `Some x` at an option of int binds an int, and at a bool it does not stand
-present_binds : bound_by nothing_declared (option_of ty.Int) pattern.Present ≡ Some (ty.Int ∷ [])
-present_binds = refl
+-- ---- the row of a query
 
-present_misfits : bound_by nothing_declared ty.Bool pattern.Present ≡ None
-present_misfits = refl
+-- `SELECT MAX(s.B) AS M FROM s WHERE s.A = 9`, `s` having an int and a string: M is optional
+abbrev greatest : Query
+greatest = record {
+  params = [];
+  fields = field.Over (record { 0 = 0 }) (agg.Max (s.Column 0 1)) ∷ [];
+  «from» = record { table = 0; columns = kind.Int ∷ kind.Str ∷ [] } ∷ [];
+  on = [];
+  filter = Some (s.Compare' compare.Equal tt (one (s.Column 0 0) end) tt (one (s.Constant (v.Int (pos 9))) end));
+  group = [];
+  order = [];
+  limit = None;
+  offset = None;
+}
 
-both_bools : has_all (constructors_of nothing_declared ty.Bool) (pattern.Bool false ∷ pattern.Bool true ∷ []) ≡ true
-both_bools = refl
+greatest_is_optional : query_row (codes "M" ∷ []) greatest ≡ made.field (label.Literal (codes "M")) (made.option_of ty.Str) ∷ []
+greatest_is_optional = refl
 
--- a `_` before another pattern is not last
-early : last_is_any (pattern.Any ∷ pattern.Int (pos 1) ∷ []) ≡ false
-early = refl
+-- ---- names
+
+capital_note : capital (codes "note") ≡ codes "Note"
+capital_note = refl
+
+-- ---- places
+
+-- a table stands in a body, a row of one does not
+table_in_body : inside in_body tag.Table ≡ Some in_table
+table_in_body = refl
+
+row_in_body : inside in_body tag.Tr ≡ None
+row_in_body = refl
+
+-- a form stands in a body and not in a form
+form_in_body : inside in_body tag.Form ≡ Some in_form
+form_in_body = refl
+
+form_in_form : inside in_form tag.Form ≡ None
+form_in_form = refl
+
+-- what is spliced into a form has the fields of its row
+found_in_form : fields_found (made.form_of (made.field (label.Literal (codes "A")) ty.Str ∷ [])) ≡ Some (made.field (label.Literal (codes "A")) ty.Str ∷ [])
+found_in_form = refl

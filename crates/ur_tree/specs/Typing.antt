@@ -32,9 +32,9 @@ use Rattle.ur_tree.specs.declared.exp.Exp.TheVariants as exp
 use Rattle.ur_tree.specs.declared.exp.Exp.TheBlock.{Row_of-Exp, end_of-Exp as alone, more_of-Exp as its, Row_of-FieldExp, end_of-FieldExp, more_of-FieldExp, Row_of-Branch, end_of-Branch, more_of-Branch, Row_of-Markup, end_of-Markup as end, more_of-Markup as more, Held-Exp-Tagged-1, None', Some'}
 use Rattle.ur_tree.specs.declared.exp.Markup.{Markup}
 use Rattle.ur_tree.specs.declared.exp.Markup.TheVariants as markup
-use Rattle.ur_type_words.specs.Scalars.{kind_type, is_basic, is_ordered}
-use Rattle.ur_type_words.specs.Places.{Place, in_form, is_flow, holds_text, holds_fields, place_type, inside, may_have_value, Sort, page, body, table, row, fields, sort_of, place_of, fields_found}
-use Rattle.ur_type_words.specs.Places as places
+use Rattle.ur_tree.specs.Scalars.{kind_type, is_basic, is_ordered}
+use Rattle.ur_tree.specs.Places.{Place, in_form, is_flow, holds_text, holds_fields, place_type, inside, may_have_value, Sort, page, body, table, row, fields, sort_of, place_of, fields_found}
+use Rattle.ur_tree.specs.Places as places
 use Rattle.ur_tree.specs.IsStatic.{is_static, wants_type}
 use Rattle.ur_tree.specs.Heads.{Head, Declared, function_type}
 use Rattle.ur_tree.specs.Env.{Env, variables, with_value, with_values, within_lambda, with_param, IsType, IsRow, AreArguments, row_is_plain}

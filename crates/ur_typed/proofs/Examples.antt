@@ -36,8 +36,8 @@ use Rattle.ur_tree.specs.declared.exp.Exp.TheVariants as exp
 use Rattle.ur_tree.specs.declared.exp.Binary.TheVariants as binary
 use Rattle.ur_tree.specs.Make as make
 use Rattle.ur_tree.specs.Heads.{Head}
-use Rattle.ur_type_conditions.specs.Names.{function, value}
-use Rattle.ur_type_conditions.specs.Scopes.{World, Scope, finds, wants}
+use Rattle.ur_typed_rules.specs.Names.{function, value}
+use Rattle.ur_typed_rules.specs.Scopes.{World, Scope, finds, wants}
 use Rattle.ur_typed.specs.Rules.{Sites, Out}
 use Rattle.ur_sqltype.specs.Query.{query_of}
 use Rattle.ur_typed.specs.Walking.{typed}

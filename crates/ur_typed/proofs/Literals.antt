@@ -8,18 +8,18 @@ use Rattle.ur_syntax.specs.declared.xml.AttrValue.TheVariants as attr_value
 use Rattle.ur_syntax.specs.declared.xml.XmlForm.{XmlForm, Row_of-XmlPart}
 use Rattle.ur_rows.specs.declared.normal.NormalType.{NormalType}
 use Rattle.ur_rows.specs.declared.normal.NormalType.TheVariants as ty
-use Rattle.ur_type_words.specs.Places.{Place, in_form}
+use Rattle.ur_tree.specs.Places.{Place, in_form}
 use Rattle.ur_xmltype.specs.Tags as node
-use Rattle.ur_type_conditions.specs.Lacking.{lacks_type}
+use Rattle.ur_typed_rules.specs.Lacking.{lacks_type}
 use Rattle.ur_typed.specs.Resolves.{IsAntiquote, first, later}
-use Rattle.ur_type_conditions.specs.Scopes.{World, Scope, Mode, wants}
+use Rattle.ur_typed_rules.specs.Scopes.{World, Scope, Mode, wants}
 use Rattle.ur_typed.specs.Rules.{Sites, Walk, args_out, function_named}
 use Rattle.ur_typed.specs.Markups.{Splice, Attribute, Literal, parts_out, part_out, page_params, without_last, value_out, called_at, splice_by, field_splice_out}
 use Rattle.ur_typed.specs.Walking.{typed, splices_walk, attributes_walk, call_walk, with_calls}
 use Rattle.ur_typed.specs.Faults.{walks}
 use Rattle.ur_typed.specs.Parts.{literal_of, form_mode, is_applied, all_types, all_but_last, first_types, InTarget, target_further, target_head, InParts, in_first, in_later, InPart, in_shown, in_field_splice, in_splice, in_element, in_a_form, in_link, in_link_target, in_submit_target, in_input_value, in_submit_value}
 use Rattle.ur_typed.proofs.Parts.{args_none}
-use Rattle.ur_type_rules.proofs.Options.{first_none, then_none, map_none, so_none, some_of}
+use Rattle.ur_typed_rules.proofs.Options.{first_none, then_none, map_none, so_none, some_of}
 
 abbrev pub a_splice : World → ExpForm → Splice
 a_splice w x = record { walk = typed w x; lacks = lacks_type x }

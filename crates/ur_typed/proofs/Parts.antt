@@ -8,12 +8,12 @@ use Rattle.ur_syntax.specs.declared.exp.ExpForm.TheVariants as e
 use Rattle.ur_rows.specs.declared.normal.Normal.{Normal}
 use Rattle.ur_rows.specs.declared.normal.NormalType.{NormalType}
 use Rattle.ur_typed.specs.Resolves.{is_head}
-use Rattle.ur_type_conditions.specs.Scopes.{World, Scope, Mode, finds, wants, within_binder}
+use Rattle.ur_typed_rules.specs.Scopes.{World, Scope, Mode, finds, wants, within_binder}
 use Rattle.ur_typed.specs.Rules.{Sites, Out, Walk, applied_out, args_out, by_head, applied, function_at, tag_named, with_type}
 use Rattle.ur_typed.specs.Walking.{typed, spine, fields_walk, branches_walk, antiquotes_walk, vals_walk, let_walk}
 use Rattle.ur_typed.specs.Faults.{walks}
 use Rattle.ur_typed.specs.Parts.{InArgs, this_arg, later_arg, InCall, of_named, of_built, of_head, of_applied, is_applied, InSpine, further, at_head, InFields, this_field, later_field, InBranches, this_branch, later_branch, InVals, this_val, later_val, let_body, InAntiquotes, this_antiquote, later_antiquote}
-use Rattle.ur_type_rules.proofs.Options.{first_none, then_none, map_none, so_none}
+use Rattle.ur_typed_rules.proofs.Options.{first_none, then_none, map_none, so_none}
 
 pub args_none : (w : World) (s : Scope) (xs : List ExpForm) (ts : List NormalType) (st su : Sites) (y : ExpForm) (m : Mode) → InArgs w s xs ts st su y m → typed w y s su m ≡ None → args_out s (walks w xs) ts st ≡ None
 args_none w s _ _ _ _ _ _ this_arg h = first_none _ _ h

@@ -6,7 +6,7 @@ use Rattle.ur_syntax.specs.declared.xml.XmlForm.{items-the_row-XmlPart}
 use Rattle.ur_typed.specs.Rules.{capital_of, says_other, local_out, Sites, Out, Branches, Fields, Antiquotes, function_at, operator_of, left_mode, left_may, is_literally, are_literal_rest, with_query_slot, with_change_slot, with_query, query_at, is_option, is_list, row_param}
 use Rattle.ur_typed.specs.Walking.{vals_walk, walk, typed, branches_walk, fields_walk, antiquotes_walk}
 use Rattle.ur_xmltype.specs.Faults.{IsBadFrame}
-use Rattle.ur_sqltype.specs.Faults.{QueryHasFault, ChangeHasFault}
+use Rattle.ur_sqltype.specs.SqltypeFaults.{QueryHasFault, ChangeHasFault}
 use Rattle.ur_typed.specs.Parts.{literal_of, StandsIn}
 use Rattle.ur_typed.specs.Faults.{given_to, BreaksParams, BreaksNamed, BreaksSpine, missing_argument, BreaksFoldRow, BreaksRowFunction, BreaksStep, no_step, BreaksPattern, BreaksParts}
 use Rattle.std.specs.Prelude.{◌≡◌, ◌&&◌, nat_le, length, ℕ, Bool, true, false, List, [], ◌∷◌, map, codes, Some, None, slice_get}
@@ -39,29 +39,29 @@ use Rattle.ur_rows.specs.Made.{record_of}
 use Rattle.ur_rows.specs.Nodes.{nodes, type_nodes}
 use Rattle.ur_rows.specs.Normal.{nf}
 use Rattle.ur_rows.specs.Types.{at_row, field_type, holds_arrow, may_run, is_value_type}
-use Rattle.ur_type_words.specs.Text.{type_text}
-use Rattle.ur_type_words.specs.Scalars.{is_basic}
-use Rattle.ur_type_words.specs.QueryRow.{query_row}
-use Rattle.ur_type_words.specs.Places.{Sort, sort_of, place_of}
-use Rattle.ur_type_words.specs.Places as places
+use Rattle.ur_tree.specs.Text.{type_text}
+use Rattle.ur_tree.specs.Scalars.{is_basic}
+use Rattle.ur_tree.specs.QueryRow.{query_row}
+use Rattle.ur_tree.specs.Places.{Sort, sort_of, place_of}
+use Rattle.ur_tree.specs.Places as places
 use Rattle.ur_xmltype.specs.Literal.{literal_sort, row_of_parts}
-use Rattle.ur_sqltable.specs.Lists.{all_of}
-use Rattle.ur_sqltable.specs.Table.{type_kind}
+use Rattle.ur_sqltype.specs.Lists.{all_of}
+use Rattle.ur_sqltype.specs.Table.{type_kind}
 use Rattle.ur_tree.specs.declared.exp.Param.{Param}
 use Rattle.ur_tree.specs.Heads.{Head}
 use Rattle.ur_tree.specs.IsStatic.{is_static}
 use Rattle.ur_tree.specs.Typing.{operation, keeps_arrows, step_rest}
-use Rattle.ur_type_conditions.specs.Names.{declared, local_at, name_of}
-use Rattle.ur_type_conditions.specs.Scopes.{World, Scope, Mode, finds, wants, within_binder, within_params, of_transaction, of_field, of_result, type_of_mode}
-use Rattle.ur_type_conditions.specs.Tests.{is_param, same_type, local_name, is_apart, are_apart, are_distinct}
+use Rattle.ur_typed_rules.specs.Names.{declared, local_at, name_of}
+use Rattle.ur_typed_rules.specs.Scopes.{World, Scope, Mode, finds, wants, within_binder, within_params, of_transaction, of_field, of_result, type_of_mode}
+use Rattle.ur_typed_rules.specs.Tests.{is_param, same_type, local_name, is_apart, are_apart, are_distinct}
 use Rattle.ur_typed.specs.Folds.{Step, fold_types, step_form, step_by, step_of}
 use Rattle.ur_typed.specs.Markups.{Marked, parts_out}
-use Rattle.ur_type_rules.specs.Faults.{Fault, unknown, twice, mismatch, not_apart, misfit, not_so, too_large, unkinded, Tells, as_refused, types_differ, not_of_type}
-use Rattle.ur_type_rules.specs.Meeting.{Meets}
-use Rattle.ur_type_rules.specs.Repeats.{IsTwiceIn, literal_names}
-use Rattle.ur_type_rules.specs.Arguments.{BreaksType, BreaksGiven, BreaksForms, BreaksWritten, BreaksFields}
-use Rattle.ur_type_rules.specs.Patterns.{BreaksCover}
-use Rattle.ur_type_rules.specs.Rules.{row_of, value_of, written_type, Params, params_out, label_at}
+use Rattle.ur_typed_rules.specs.Faults.{Fault, unknown, twice, mismatch, not_apart, misfit, not_so, too_large, unkinded, TellsType, as_refused, types_differ, not_of_type}
+use Rattle.ur_typed_rules.specs.Meeting.{Meets}
+use Rattle.ur_typed_rules.specs.Repeats.{IsTwiceIn, literal_names}
+use Rattle.ur_typed_rules.specs.Arguments.{BreaksType, BreaksGiven, BreaksForms, BreaksWritten, BreaksFields}
+use Rattle.ur_typed_rules.specs.Patterns.{BreaksCover}
+use Rattle.ur_typed_rules.specs.Rules.{row_of, value_of, written_type, Params, params_out, label_at}
 
 -- ---- what a form that stands without a type is called
 
@@ -248,7 +248,7 @@ pub record HasFault (names : List (List ℕ)) (w : World) (s : Scope) (st : Site
   pub mode : Mode
   pub stands : StandsIn w s st x m scope behind place mode
   pub broken : Breaks names w scope behind place mode fault
-  pub told : Tells names r fault
+  pub told : TellsType names r fault
 
 -- what has a fault is not typed
 abbrev pub FaultyIsNone : Type 0

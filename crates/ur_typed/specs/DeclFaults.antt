@@ -26,7 +26,7 @@ use Rattle.ur_rows.specs.Nodes.{nodes}
 use Rattle.ur_rows.specs.Normal.{nf}
 use Rattle.ur_rows.specs.Put.{as_type}
 use Rattle.ur_rows.specs.Types.{is_value_type, holds_arrow}
-use Rattle.ur_type_words.specs.Text.{type_text}
+use Rattle.ur_tree.specs.Text.{type_text}
 use Rattle.ur_tree.specs.declared.typed.ConParam.TheVariants as con_param
 use Rattle.ur_tree.specs.Heads.{Head, function_type}
 use Rattle.ur_tree.specs.Env.{Env, variables}
@@ -34,19 +34,19 @@ use Rattle.ur_tree.specs.declared.exp.Param.{Param}
 use Rattle.ur_tree.specs.App.{nothing_in_scope, within_head}
 use Rattle.ur_tree.specs.IsStatic.{is_static}
 use Rattle.ur_tree.specs.Typing.{are_linkable, types_of}
-use Rattle.ur_type_conditions.specs.Names.{Names, with_con}
-use Rattle.ur_type_conditions.specs.Names as here
-use Rattle.ur_type_conditions.specs.Scopes.{wants}
-use Rattle.ur_type_conditions.specs.Tests.{same_type, is_page}
-use Rattle.ur_sqltable.specs.Table.{type_kind}
-use Rattle.ur_sqltable.specs.Faults.{TableBreaks}
+use Rattle.ur_typed_rules.specs.Names.{Names, with_con}
+use Rattle.ur_typed_rules.specs.Names as here
+use Rattle.ur_typed_rules.specs.Scopes.{wants}
+use Rattle.ur_typed_rules.specs.Tests.{same_type, is_page}
+use Rattle.ur_sqltype.specs.Table.{type_kind}
+use Rattle.ur_sqltype.specs.SqltableFaults.{TableBreaks}
 use Rattle.ur_typed.specs.Rules.{Out}
 use Rattle.ur_typed.specs.Walking.{typed}
 use Rattle.ur_typed.specs.Causes.{HasFault}
 use Rattle.ur_typed.specs.Project.{env_at, names_at, at, written_keys}
 use Rattle.ur_typed.specs.Declaring.{FunctionHead, Sofar, world_behind, top_scope, datatype_names, variant_out, with_datatype, ConParams, con_params_out, Heading, written_heading, heading_out, with_head, val_type_out, decl_out, Bodies, body_scope, body_out, bodies_out, Checked, decls_out, entered, modules_out, entry_out, project_out}
-use Rattle.ur_type_rules.specs.Faults.{Fault, unknown, not_so, too_large, unkinded, as_refused, Tells, types_differ, not_of_type}
-use Rattle.ur_type_rules.specs.Arguments.{BreaksType, BreaksCon, BreaksPlace, BreaksParameter, BreaksWritten, HasLarge}
+use Rattle.ur_typed_rules.specs.Faults.{Fault, unknown, not_so, too_large, unkinded, as_refused, TellsType, types_differ, not_of_type}
+use Rattle.ur_typed_rules.specs.Arguments.{BreaksType, BreaksCon, BreaksPlace, BreaksParameter, BreaksWritten, HasLarge}
 
 -- ---- types and datatypes
 
@@ -145,14 +145,14 @@ pub data BodiesHaveFault (most : ℕ) (z after : Sofar) (b : Bodies) (r : Refusa
   in_right_side : {x : List ℕ} {c : Con} {e : WrittenExp} {t : NormalType} → val_type_out most c z ≡ Some t → HasFault (datatype_names z) (world_behind most z) (top_scope z) b.sites e.form (wants t) r →
       BodiesHaveFault most z after b r (decl.Val x c e)
   right_side_moves : {x : List ℕ} {c : Con} {e : WrittenExp} {t : NormalType} {o : Out} → val_type_out most c z ≡ Some t → typed (world_behind most z) e.form (top_scope z) b.sites (wants t) ≡ Some o → is_static o.exp ≡ false →
-      Tells (datatype_names z) r (not_so (codes "the right side of a val") (codes "a static expression")) → BodiesHaveFault most z after b r (decl.Val x c e)
+      TellsType (datatype_names z) r (not_so (codes "the right side of a val") (codes "a static expression")) → BodiesHaveFault most z after b r (decl.Val x c e)
   in_group : {fs : List FunDef} → GroupHasFault most after r fs b → BodiesHaveFault most z after b r (decl.Fun fs)
 
 -- ---- modules
 
 -- the first declaration that breaks a rule, all before it being typed
 pub data DeclsHaveFault (most home : ℕ) (r : Refusal) : List Decl → Checked → Type 0 where
-  in_head : {d : Decl} {ds : List Decl} {p : Checked} {f : Fault} → BreaksDecl most home p.0 d.form f → Tells (names_within home d.form p.0) r f → DeclsHaveFault most home r (d ∷ ds) p
+  in_head : {d : Decl} {ds : List Decl} {p : Checked} {f : Fault} → BreaksDecl most home p.0 d.form f → TellsType (names_within home d.form p.0) r f → DeclsHaveFault most home r (d ∷ ds) p
   in_bodies : {d : Decl} {ds : List Decl} {p : Checked} {after : Sofar} → decl_out most home d.form p.0 ≡ Some after → BodiesHaveFault most p.0 after p.1 r d.form → DeclsHaveFault most home r (d ∷ ds) p
   in_later_decl : {d : Decl} {ds : List Decl} {p : Checked} {after : Sofar} {b : Bodies} → decl_out most home d.form p.0 ≡ Some after → bodies_out most d.form p.0 after p.1 ≡ Some b → DeclsHaveFault most home r ds (after, b) →
       DeclsHaveFault most home r (d ∷ ds) p
@@ -176,7 +176,7 @@ pub data BreaksEntry (most : ℕ) (z : Sofar) (v : ValDecl) : Fault → Type 0 w
       BreaksEntry most z v (not_so (codes "a parameter") (codes "int, string, bool or unit"))
 
 pub data EntriesHaveFault (most : ℕ) (z : Sofar) (r : Refusal) : List ValDecl → Type 0 where
-  this_entry : {v : ValDecl} {vs : List ValDecl} {f : Fault} → BreaksEntry most z v f → Tells (datatype_names z) r f → EntriesHaveFault most z r (v ∷ vs)
+  this_entry : {v : ValDecl} {vs : List ValDecl} {f : Fault} → BreaksEntry most z v f → TellsType (datatype_names z) r f → EntriesHaveFault most z r (v ∷ vs)
   later_entry : {v : ValDecl} {vs : List ValDecl} {n : ℕ} → entry_out most z v ≡ Some n → EntriesHaveFault most z r vs → EntriesHaveFault most z r (v ∷ vs)
 
 -- The routes break nothing: their functions are entries, or targets of links and buttons, which are told in bodies.

@@ -40,18 +40,18 @@ use Rattle.ur_tree.specs.App.{nothing_in_scope, within_head, within_body}
 use Rattle.ur_tree.specs.IsStatic.{is_static}
 use Rattle.ur_tree.specs.Typing.{are_linkable, types_of}
 use Rattle.ur_rows.specs.Kinded.{row_is_in}
-use Rattle.ur_type_conditions.specs.Names.{Names, with_con}
-use Rattle.ur_type_conditions.specs.Names as here
-use Rattle.ur_type_conditions.specs.Scopes.{World, Scope, wants}
-use Rattle.ur_type_conditions.specs.Tests.{same_type, is_type, are_params, con_rows_are_apart, is_page}
-use Rattle.ur_sqltable.specs.declared.keys.SqlKey.{SqlKey}
-use Rattle.ur_sqltable.specs.Lists.{all_of, repeated}
-use Rattle.ur_sqltable.specs.Table.{type_kind, column_from, record_row, key_of, has_primary}
+use Rattle.ur_typed_rules.specs.Names.{Names, with_con}
+use Rattle.ur_typed_rules.specs.Names as here
+use Rattle.ur_typed_rules.specs.Scopes.{World, Scope, wants}
+use Rattle.ur_typed_rules.specs.Tests.{same_type, is_type, are_params, con_rows_are_apart, is_page}
+use Rattle.ur_sqltype.specs.declared.keys.SqlKey.{SqlKey}
+use Rattle.ur_sqltype.specs.Lists.{all_of, repeated}
+use Rattle.ur_sqltype.specs.Table.{type_kind, column_from, record_row, key_of, has_primary}
 use Rattle.ur_rows.specs.declared.normal.Normal.TheVariants as normal
 use Rattle.ur_typed.specs.Rules.{Sites, Out}
 use Rattle.ur_typed.specs.Walking.{typed}
 use Rattle.ur_typed.specs.Project.{Place, env_at, names_at, at, with_entry, with_function, with_val, with_variant, with_table, with_sequence, with_cookie, enter, written_keys}
-use Rattle.ur_type_rules.specs.Rules.{if_so, Params, no_params, and_params, param_out, small_type, written_type}
+use Rattle.ur_typed_rules.specs.Rules.{if_so, Params, no_params, and_params, param_out, small_type, written_type}
 
 -- a function's head, with its module and its name
 pub record FunctionHead : Type 0 where

@@ -1,7 +1,7 @@
 -- What breaks the rules of arguments, parameters, written types, patterns and tags, and how a refusal tells it.
 use Rattle.ur_rows.specs.Kinded.{label_is_in}
 use Rattle.ur_tree.specs.Env.{Env, variables, row_is_plain}
-use Rattle.ur_type_conditions.specs.Names.{val, declared, local_at}
+use Rattle.ur_typed_rules.specs.Names.{val, declared, local_at}
 use Rattle.ur_typed.specs.Rules.{capital_of, says_other, Sites, Out, Walk, Args, function_at, tag_named, args_out}
 use Rattle.ur_typed.specs.Folds.{Step, step_form, step_names}
 use Rattle.ur_xmltype.specs.Faults.{IsBadTag, place_text}
@@ -37,22 +37,22 @@ use Rattle.ur_rows.specs.Made.{record_of}
 use Rattle.ur_rows.specs.Nodes.{nodes, type_nodes}
 use Rattle.ur_rows.specs.Normal.{nf, known_in}
 use Rattle.ur_rows.specs.Put.{as_type, as_row, instance_type}
-use Rattle.ur_type_words.specs.Text.{type_text, row_text}
-use Rattle.ur_type_words.specs.Scalars.{is_basic}
-use Rattle.ur_type_words.specs.Places.{Place, in_form, holds_text, holds_fields, place_type, fields_found}
+use Rattle.ur_tree.specs.Text.{type_text, row_text}
+use Rattle.ur_tree.specs.Scalars.{is_basic}
+use Rattle.ur_tree.specs.Places.{Place, in_form, holds_text, holds_fields, place_type, fields_found}
 use Rattle.ur_xmltype.specs.Tags as node
 use Rattle.ur_xmltype.specs.Literal.{is_kept, is_end}
 use Rattle.ur_tree.specs.declared.exp.Param.{Param}
 use Rattle.ur_tree.specs.Heads.{Head, function_type}
 use Rattle.ur_tree.specs.Typing.{parameters, are_static_at, are_linkable}
-use Rattle.ur_type_conditions.specs.Scopes.{World, Scope, finds}
-use Rattle.ur_type_conditions.specs.Tests.{same_type}
+use Rattle.ur_typed_rules.specs.Scopes.{World, Scope, finds}
+use Rattle.ur_typed_rules.specs.Tests.{same_type}
 use Rattle.ur_typed.specs.Markups.{Literal, Marked, Splice, parts_out, part_out, page_params, without_last, called_at}
 use Rattle.ur_typed.specs.Walking.{typed}
-use Rattle.ur_type_rules.specs.Faults.{Fault, unknown, mismatch, not_apart, misplaced, not_so, too_large, unkinded, as_refused, types_differ}
-use Rattle.ur_type_rules.specs.Meeting.{Meets}
-use Rattle.ur_type_rules.specs.Arguments.{BreaksGiven, BreaksLambdaParam, BreaksRow, HasLarge}
-use Rattle.ur_type_rules.specs.Patterns.{BreaksPat}
+use Rattle.ur_typed_rules.specs.Faults.{Fault, unknown, mismatch, not_apart, misplaced, not_so, too_large, unkinded, as_refused, types_differ}
+use Rattle.ur_typed_rules.specs.Meeting.{Meets}
+use Rattle.ur_typed_rules.specs.Arguments.{BreaksGiven, BreaksLambdaParam, BreaksRow, HasLarge}
+use Rattle.ur_typed_rules.specs.Patterns.{BreaksPat}
 
 -- ---- breaches of applications
 

@@ -21,11 +21,11 @@ use Rattle.ur_tree.specs.declared.exp.Param.{Param}
 use Rattle.ur_tree.specs.Make as make
 use Rattle.ur_tree.specs.Env.{row_is_plain}
 use Rattle.ur_tree.specs.Typing.{step_rest, step_row, within_step}
-use Rattle.ur_type_conditions.specs.Names.{Local, Names, with_con, with_local}
-use Rattle.ur_type_conditions.specs.Scopes.{World, Scope, wants}
-use Rattle.ur_type_conditions.specs.Tests.{same_type, is_row, is_param}
+use Rattle.ur_typed_rules.specs.Names.{Local, Names, with_con, with_local}
+use Rattle.ur_typed_rules.specs.Scopes.{World, Scope, wants}
+use Rattle.ur_typed_rules.specs.Tests.{same_type, is_row, is_param}
 use Rattle.ur_typed.specs.Rules.{Sites, Out, Walk, gives, then_}
-use Rattle.ur_type_rules.specs.Rules.{if_so, param_out}
+use Rattle.ur_typed_rules.specs.Rules.{if_so, param_out}
 
 abbrev pub is_bare_field : {n : _} → List ℕ → Row_of-CField n → Bool
 is_bare_field x (more (con_field.Bare (field_name.Variable y)) end) = bytes_eq x y

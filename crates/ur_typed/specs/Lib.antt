@@ -10,3 +10,6 @@ pub mod Resolves
 pub mod Rules
 pub mod Typed
 pub mod Walking
+pub mod Made
+pub mod Routing
+pub mod Source

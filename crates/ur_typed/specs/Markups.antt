@@ -20,9 +20,9 @@ use Rattle.ur_rows.specs.Made.{record_of}
 use Rattle.ur_rows.specs.Normal.{known_in}
 use Rattle.ur_rows.specs.Order.{joined}
 use Rattle.ur_rows.specs.Types.{field}
-use Rattle.ur_type_words.specs.Scalars.{is_basic}
-use Rattle.ur_type_words.specs.Places.{Place, in_form, holds_text, holds_fields, place_type, Sort, row, fields, place_of, fields_found}
-use Rattle.ur_type_words.specs.Places as places
+use Rattle.ur_tree.specs.Scalars.{is_basic}
+use Rattle.ur_tree.specs.Places.{Place, in_form, holds_text, holds_fields, place_type, Sort, row, fields, place_of, fields_found}
+use Rattle.ur_tree.specs.Places as places
 use Rattle.ur_xmltype.specs.Tags.{Node, node_at}
 use Rattle.ur_xmltype.specs.Tags as node
 use Rattle.ur_xmltype.specs.Literal.{is_kept, is_end, literal_sort, is_framed, sort_type, row_of_parts}
@@ -34,10 +34,10 @@ use Rattle.ur_tree.specs.declared.exp.Markup.TheVariants as markup
 use Rattle.ur_tree.specs.Heads.{Declared}
 use Rattle.ur_tree.specs.Env.{variables}
 use Rattle.ur_tree.specs.Typing.{are_linkable, types_of}
-use Rattle.ur_type_conditions.specs.Scopes.{World, Scope, Mode, finds, wants, type_of_mode}
-use Rattle.ur_type_conditions.specs.Tests.{same_type, are_apart, is_page}
+use Rattle.ur_typed_rules.specs.Scopes.{World, Scope, Mode, finds, wants, type_of_mode}
+use Rattle.ur_typed_rules.specs.Tests.{same_type, are_apart, is_page}
 use Rattle.ur_typed.specs.Rules.{Sites, Out, Walk, then_, gives, args_out}
-use Rattle.ur_type_rules.specs.Rules.{if_so}
+use Rattle.ur_typed_rules.specs.Rules.{if_so}
 
 -- a splice, and whether no type is found of it
 pub record Splice : Type 0 where

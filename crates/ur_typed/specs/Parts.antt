@@ -39,24 +39,24 @@ use Rattle.ur_rows.specs.Made.{record_of}
 use Rattle.ur_rows.specs.Normal.{known_in}
 use Rattle.ur_rows.specs.Put.{instance_type}
 use Rattle.ur_rows.specs.Types.{at_row}
-use Rattle.ur_type_words.specs.Scalars.{kind_type}
-use Rattle.ur_type_words.specs.QueryRow.{query_row}
-use Rattle.ur_type_words.specs.Places.{Place, in_form, holds_fields, place_type, Sort, place_of}
+use Rattle.ur_tree.specs.Scalars.{kind_type}
+use Rattle.ur_tree.specs.QueryRow.{query_row}
+use Rattle.ur_tree.specs.Places.{Place, in_form, holds_fields, place_type, Sort, place_of}
 use Rattle.ur_xmltype.specs.Tags.{node_at}
 use Rattle.ur_xmltype.specs.Tags as node
 use Rattle.ur_xmltype.specs.Literal.{is_end, literal_sort, row_of_parts}
 use Rattle.ur_tree.specs.declared.exp.Param.{Param}
 use Rattle.ur_tree.specs.Heads.{Head}
 use Rattle.ur_tree.specs.Typing.{operation, parameters, step_row}
-use Rattle.ur_type_conditions.specs.Names.{Local}
-use Rattle.ur_type_conditions.specs.Lacking.{lacks_type}
+use Rattle.ur_typed_rules.specs.Names.{Local}
+use Rattle.ur_typed_rules.specs.Lacking.{lacks_type}
 use Rattle.ur_typed.specs.Resolves.{IsAntiquote}
-use Rattle.ur_type_conditions.specs.Scopes.{World, Scope, Mode, finds, wants, within_binder, within_branch, within_params, of_option, of_transaction, of_field, of_result, type_of_mode}
+use Rattle.ur_typed_rules.specs.Scopes.{World, Scope, Mode, finds, wants, within_binder, within_branch, within_params, of_option, of_transaction, of_field, of_result, type_of_mode}
 use Rattle.ur_typed.specs.Rules.{Sites, Out, Walk, Args, Antiquotes, function_at, function_named, tag_named, args_out, operator_of, left_mode, right_mode, cookie_at, with_query_slot, with_change_slot, with_query, query_at, row_param}
 use Rattle.ur_typed.specs.Folds.{fold_types, step_of}
 use Rattle.ur_typed.specs.Markups.{Literal, Marked, part_out, page_params, without_last, called_at}
 use Rattle.ur_typed.specs.Walking.{typed, antiquotes_walk, step_walk, splices_walk, attributes_walk}
-use Rattle.ur_type_rules.specs.Rules.{value_of, pattern_of, bound_in, written_type, Params, params_out, label_at}
+use Rattle.ur_typed_rules.specs.Rules.{value_of, pattern_of, bound_in, written_type, Params, params_out, label_at}
 
 -- ---- the parts of an expression, each with the scope, the statements before it, and what is wanted of it
 

@@ -31,15 +31,15 @@ use Rattle.ur_tree.specs.declared.typed.Function.{Function}
 use Rattle.ur_tree.specs.declared.typed.ConParam.{ConParam}
 use Rattle.ur_tree.specs.declared.typed.ConParam.TheVariants as con_param
 use Rattle.ur_tree.specs.declared.typed.ModuleVal.{ModuleVal}
-use Rattle.ur_type_words.specs.Scalars.{kind_type}
+use Rattle.ur_tree.specs.Scalars.{kind_type}
 use Rattle.ur_tree.specs.Env.{con_is_apart}
 use Rattle.ur_tree.specs.App.{nothing_in_scope}
 use Rattle.ur_tree.specs.Heads.{declared_of}
-use Rattle.ur_sqltable.specs.declared.keys.SqlKey.{SqlKey}
+use Rattle.ur_sqltype.specs.declared.keys.SqlKey.{SqlKey}
 use Rattle.ur_rows.specs.declared.normal.Normal.TheVariants as normal
-use Rattle.ur_sqltable.specs.Table.{IsTable}
-use Rattle.ur_type_conditions.specs.Names.{Local, Globals, Names, with_con, IsWritten, WritesType, WritesRow}
-use Rattle.ur_type_conditions.specs.Names as here
+use Rattle.ur_sqltype.specs.Table.{IsTable}
+use Rattle.ur_typed_rules.specs.Names.{Local, Globals, Names, with_con, IsWritten, WritesType, WritesRow}
+use Rattle.ur_typed_rules.specs.Names as here
 use Rattle.ur_typed.specs.Resolves.{IsParam, Statements, Resolves}
 
 -- What a place in the project sees: the names of the project's fields, the constructors and the names of expressions,

@@ -20,7 +20,7 @@ use Rattle.ur_values.specs.declared.value.FieldKind.{FieldKind}
 use Rattle.ur_xmltype.specs.Tags.{node_at}
 use Rattle.ur_xmltype.specs.Tags as node
 use Rattle.ur_xmltype.specs.Literal.{is_kept, is_end, row_of_parts}
-use Rattle.ur_type_words.specs.Places.{Place, in_form, Sort, sort_of, place_of}
+use Rattle.ur_tree.specs.Places.{Place, in_form, Sort, sort_of, place_of}
 use Rattle.ur_syntax.specs.declared.con.FieldName.{FieldName}
 use Rattle.ur_syntax.specs.declared.con.FieldName.TheVariants as field_name
 use Rattle.ur_syntax.specs.declared.con.ConParam.TheVariants as con_param
@@ -66,13 +66,13 @@ use Rattle.ur_tree.specs.declared.exp.Exp.TheVariants as exp
 use Rattle.ur_tree.specs.declared.exp.Exp.TheBlock.{Row_of-Exp as Row_of-Resolved, end_of-Exp as sole, more_of-Exp as the, Row_of-FieldExp, end_of-FieldExp, more_of-FieldExp, Row_of-Branch as Row_of-ResolvedBranch, end_of-Branch as no_branch, more_of-Branch as a_branch, Row_of-Markup, end_of-Markup as no_markup, more_of-Markup as a_markup, Held-Exp-Tagged-1, None', Some'}
 use Rattle.ur_tree.specs.declared.exp.Markup.{Markup}
 use Rattle.ur_tree.specs.declared.exp.Markup.TheVariants as markup
-use Rattle.ur_type_words.specs.QueryRow.{query_row}
+use Rattle.ur_tree.specs.QueryRow.{query_row}
 use Rattle.ur_tree.specs.Make as make
 use Rattle.ur_tree.specs.Heads.{Declared as Heads}
 use Rattle.ur_sqltype.specs.IsQuery.{IsQuery}
 use Rattle.ur_sqltype.specs.Change.{IsChange}
-use Rattle.ur_type_conditions.specs.Names.{Local, Declared, Globals, Names, declared, local_at, with_con, with_local, with_locals, IsWritten, WritesType, WritesRow, WritesLabel, AreDistinct, bound_name, name_of, local_of, param_of}
-use Rattle.ur_type_conditions.specs.Names as here
+use Rattle.ur_typed_rules.specs.Names.{Local, Declared, Globals, Names, declared, local_at, with_con, with_local, with_locals, IsWritten, WritesType, WritesRow, WritesLabel, AreDistinct, bound_name, name_of, local_of, param_of}
+use Rattle.ur_typed_rules.specs.Names as here
 
 -- a written parameter, what it binds, and the resolved one
 pub data IsParam (most : ℕ) (names : Names) : WrittenParam → Local → Param → Type 0 where

@@ -39,11 +39,11 @@ use Rattle.ur_rows.specs.Normal.{nf}
 use Rattle.ur_rows.specs.Order.{with_part, joined}
 use Rattle.ur_rows.specs.Put.{instance_type}
 use Rattle.ur_rows.specs.Types.{option_of, list_of, transaction_of, arrows_of, field, field_type, without, holds_arrow, may_run, is_value_type}
-use Rattle.ur_type_words.specs.Places.{sort_of}
-use Rattle.ur_type_words.specs.Scalars.{kind_type, is_basic}
-use Rattle.ur_type_words.specs.QueryRow.{query_row}
-use Rattle.ur_sqltable.specs.Lists.{all_of}
-use Rattle.ur_sqltable.specs.Table.{type_kind}
+use Rattle.ur_tree.specs.Places.{sort_of}
+use Rattle.ur_tree.specs.Scalars.{kind_type, is_basic}
+use Rattle.ur_tree.specs.QueryRow.{query_row}
+use Rattle.ur_sqltype.specs.Lists.{all_of}
+use Rattle.ur_sqltype.specs.Table.{type_kind}
 use Rattle.ur_tree.specs.declared.exp.Unary.{Unary}
 use Rattle.ur_tree.specs.declared.exp.Unary.TheVariants as unary
 use Rattle.ur_tree.specs.declared.exp.Binary.{Binary}
@@ -56,13 +56,13 @@ use Rattle.ur_tree.specs.Heads.{Head, function_type}
 use Rattle.ur_tree.specs.Env.{variables}
 use Rattle.ur_tree.specs.IsStatic.{is_static}
 use Rattle.ur_tree.specs.Typing.{Operation, of_two, compares, conses, joins, operation, parameters, types_of, keeps_arrows, are_static_at, answer_type}
-use Rattle.ur_type_conditions.specs.Names.{Local, Declared as DeclaredAs, function, val, declared, local_at, name_of}
+use Rattle.ur_typed_rules.specs.Names.{Local, Declared as DeclaredAs, function, val, declared, local_at, name_of}
 use Rattle.ur_typed.specs.Resolves.{is_head}
-use Rattle.ur_type_conditions.specs.Scopes.{World, Scope, Mode, finds, wants, within_binder, within_branch, within_params, of_option, of_list, of_transaction, of_field, of_result}
+use Rattle.ur_typed_rules.specs.Scopes.{World, Scope, Mode, finds, wants, within_binder, within_branch, within_params, of_option, of_list, of_transaction, of_field, of_result}
 use Rattle.ur_sqltype.specs.Query.{query_of}
 use Rattle.ur_sqltype.specs.Change.{change_of}
-use Rattle.ur_type_conditions.specs.Tests.{same_type, is_apart, are_apart, are_arguments, are_params, are_distinct, covers}
-use Rattle.ur_type_rules.specs.Rules.{if_so, row_of, value_of, pattern_of, bound_in, written_type, Params, params_out, small_type, label_at}
+use Rattle.ur_typed_rules.specs.Tests.{same_type, is_apart, are_apart, are_arguments, are_params, are_distinct, covers}
+use Rattle.ur_typed_rules.specs.Rules.{if_so, row_of, value_of, pattern_of, bound_in, written_type, Params, params_out, small_type, label_at}
 
 -- The queries and changes that are numbered so far. A statement takes its number before its antiquotes are looked at, which may hold
 -- further ones, and it stands in its place once their types are known.

@@ -14,7 +14,7 @@ use Rattle.ur_syntax.specs.declared.decl.Module.{Module}
 use Rattle.ur_syntax.specs.declared.decl.ValDecl.{ValDecl}
 use Rattle.ur_syntax.specs.declared.decl.Signature.{Signature}
 use Rattle.ur_syntax.specs.Names.{looked_up}
-use Rattle.ur_type_words.specs.FieldNames.{of_modules}
+use Rattle.ur_tree.specs.FieldNames.{of_modules}
 use Rattle.ur_rows.specs.Order.{is_not_after}
 use Rattle.ur_tree.specs.declared.exp.Exp.{Exp}
 use Rattle.ur_tree.specs.declared.typed.Typed.{Typed}
@@ -24,8 +24,8 @@ use Rattle.ur_tree.specs.Heads.{function_type, head_of}
 use Rattle.ur_tree.specs.Typing.{IsPage, are_linkable, types_of}
 use Rattle.ur_tree.specs.Occurrences.{Occurrence, link, action, site, update, occurrences}
 use Rattle.ur_tree.specs.App.{AppIsTyped}
-use Rattle.ur_type_conditions.specs.Names.{WritesType}
-use Rattle.ur_type_conditions.specs.Names as here
+use Rattle.ur_typed_rules.specs.Names.{WritesType}
+use Rattle.ur_typed_rules.specs.Names as here
 use Rattle.ur_typed.specs.Project.{Place, ModulesResolve, at, env_at}
 
 -- before the first module

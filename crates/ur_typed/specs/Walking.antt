@@ -11,12 +11,12 @@ use Rattle.ur_rows.specs.Made.{unit}
 use Rattle.ur_tree.specs.declared.exp.Exp.TheVariants as exp
 use Rattle.ur_tree.specs.declared.exp.Unary.TheVariants as unary
 use Rattle.ur_tree.specs.declared.exp.Param.{Param}
-use Rattle.ur_type_conditions.specs.Scopes.{World, Scope, Mode}
-use Rattle.ur_type_conditions.specs.Lacking.{lacks_type}
+use Rattle.ur_typed_rules.specs.Scopes.{World, Scope, Mode}
+use Rattle.ur_typed_rules.specs.Lacking.{lacks_type}
 use Rattle.ur_typed.specs.Rules.{Sites, Out, Walk, settling, gives, var_out, member_out, constructor_out, member_constructor_out, function_at, function_out, function_named, applied, one_out, show_out, some_out, return_out, error_out, operator_of, sides_out, if_out, Branches, no_branches, branch_out, case_out, let_out, bind_out, lambda_out, Fields, no_fields, field_out, record_out, project_out, cut_out, next_out, get_cookie_out, set_cookie_out, is_literally, are_literal_rest, Antiquotes, no_antiquotes, antiquote_out, write_out, ask_out, each_out, row_body, empty_out}
 use Rattle.ur_typed.specs.Folds.{step_out, fold_out}
 use Rattle.ur_typed.specs.Markups.{Splice, Attribute, xml_out}
-use Rattle.ur_type_rules.specs.Rules.{if_so}
+use Rattle.ur_typed_rules.specs.Rules.{if_so}
 
 abbrev pub with_calls : List Walk → ℕ → ℕ × List Walk
 with_calls args f = (f, args)

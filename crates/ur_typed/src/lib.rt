@@ -1,2 +1,3 @@
-//! When a written project has a typed source, and the typing of written expressions by one function.
+//! When a written project has a typed source, put together of its declarations, its bodies and its routes; and the
+//! typing of written expressions by one function.
 #![tactic(auto)]

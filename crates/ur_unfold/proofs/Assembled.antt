@@ -12,8 +12,8 @@ use Rattle.ur_meaning.specs.Unfolds.{Unfolds}
 use Rattle.ur_source.specs.Items.{exp, scope_of}
 use Rattle.ur_source.specs.Source.{language}
 use Rattle.ur_source.specs.Instances.{IsFunctionOf, IsTarget, IsVariant, IsClosed}
-use Rattle.ur_unfolding.specs.Working.{Unfolded}
-use Rattle.ur_pieces.proofs.Lists.{the_same}
+use Rattle.ur_meaning.specs.Working.{Unfolded}
+use Rattle.ur_unfold_pieces.proofs.Lists.{the_same}
 use Rattle.ur_unfold.specs.Heads.{IsHeadOf, HeadAt, HeadsAre, IsPushed}
 use Rattle.ur_unfold.specs.declared.unfolding.Made.{Made}
 use Rattle.ur_unfold.specs.Making.{AreMade}

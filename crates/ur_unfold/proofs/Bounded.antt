@@ -10,10 +10,10 @@ use Rattle.ur_meaning.specs.Instances.{IsNumbered}
 use Rattle.ur_meaning.proofs.Small.{all_nodes, not_too_large, not_too_deep, not_too_many}
 use Rattle.ur_source.specs.Source.{language}
 use Rattle.ur_source.specs.Instances.{IsRoot}
-use Rattle.ur_unfolding.specs.Making.{list_nodes, AreWithin}
-use Rattle.ur_unfolding.specs.Working.{Unfolded, most_instances, most_nodes, most_levels}
-use Rattle.ur_unfolding.proofs.Going.{zip_at}
-use Rattle.ur_pieces.proofs.Lists.{of_map, the_same}
+use Rattle.ur_meaning.specs.Making.{list_nodes, AreWithin}
+use Rattle.ur_meaning.specs.Working.{Unfolded, most_instances, most_nodes, most_levels}
+use Rattle.ur_meaning.proofs.Going.{zip_at}
+use Rattle.ur_unfold_pieces.proofs.Lists.{of_map, the_same}
 use Rattle.ur_unfold.specs.Limits.{IsLarge, IsSmall}
 use Rattle.ur_unfold.specs.Making.{AreTerms}
 

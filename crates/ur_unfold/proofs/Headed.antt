@@ -8,12 +8,12 @@ use Rattle.ur_tree.specs.declared.typed.Typed.{Typed}
 use Rattle.ur_tree.specs.declared.typed.Function as source
 use Rattle.ur_source.specs.Reading.{Cons, Names, closed_type, result_type}
 use Rattle.ur_source.specs.Instances.{value_params}
-use Rattle.ur_closing.specs.declared.node.Scope.{Scope}
-use Rattle.ur_closing.specs.Held.{Held, con_at}
-use Rattle.ur_closing.specs.Scopes.{cons_of}
-use Rattle.ur_pieces.specs.declared.opening.Key.{Key}
-use Rattle.ur_pieces.specs.Keys.{instance_of}
-use Rattle.ur_pieces.proofs.Lists.{numbered_map}
+use Rattle.ur_unfold_static.specs.declared.node.Scope.{Scope}
+use Rattle.ur_unfold_static.specs.Held.{Held, con_at}
+use Rattle.ur_unfold_static.specs.Scopes.{cons_of}
+use Rattle.ur_unfold_pieces.specs.declared.opening.Key.{Key}
+use Rattle.ur_unfold_pieces.specs.Keys.{instance_of}
+use Rattle.ur_unfold_pieces.proofs.Lists.{numbered_map}
 use Rattle.ur_unfold.specs.declared.functions.Head.{Head}
 use Rattle.ur_unfold.specs.declared.functions.Types.{Types}
 use Rattle.ur_unfold.specs.Heads.{IsFullName, IsHeadOf, HeadAt, IsPushed}

@@ -10,11 +10,11 @@ use Rattle.ur_rows.specs.Made.{unit}
 use Rattle.ur_tree.specs.declared.typed.Typed.{Typed}
 use Rattle.ur_tree.specs.declared.closed.Instance.{Instance}
 use Rattle.ur_meaning.specs.Instances.{IsNumbered}
-use Rattle.ur_closing.specs.Held.{Held, con_at}
-use Rattle.ur_closed.specs.Sizes.{SomeLarge}
-use Rattle.ur_pieces.specs.declared.opening.Key.{Key}
-use Rattle.ur_pieces.specs.Keys.{instance_of}
-use Rattle.ur_pieces.proofs.Lists.{all_at, of_map}
+use Rattle.ur_unfold_static.specs.Held.{Held, con_at}
+use Rattle.ur_unfold_pieces.specs.Sizes.{SomeLarge}
+use Rattle.ur_unfold_pieces.specs.declared.opening.Key.{Key}
+use Rattle.ur_unfold_pieces.specs.Keys.{instance_of}
+use Rattle.ur_unfold_pieces.proofs.Lists.{all_at, of_map}
 use Rattle.ur_unfold.specs.Limits.{IsLarge, HasLargeArgument}
 use Rattle.ur_unfold.specs.Making.{AreTerms}
 use Rattle.ur_unfold.specs.Sizes.{ConIsSmall, KeyIsSmall}

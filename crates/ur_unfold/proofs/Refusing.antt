@@ -9,8 +9,8 @@ use Rattle.ur_tree.specs.declared.typed.Typed.{Typed}
 use Rattle.ur_meaning.specs.Instances.{HasTooManyNodes, IsTooDeep}
 use Rattle.ur_source.specs.Source.{language}
 use Rattle.ur_source.specs.Instances.{IsRoot}
-use Rattle.ur_unfolding.specs.Working.{HasOneTooMany, most_instances, most_nodes, most_levels}
-use Rattle.ur_pieces.specs.Keys.{IsOf}
+use Rattle.ur_meaning.specs.Working.{HasOneTooMany, most_instances, most_nodes, most_levels}
+use Rattle.ur_unfold_pieces.specs.Keys.{IsOf}
 use Rattle.ur_unfold.specs.Limits.{HasLargeArgument}
 use Rattle.ur_unfold.specs.Unfolding as u
 use Rattle.ur_unfold.specs.Unfolding.{IsNamed, ExplainsUnfolded, RefusesWith, ExplainsStop}

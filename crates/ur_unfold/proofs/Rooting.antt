@@ -9,15 +9,15 @@ use Rattle.ur_meaning.specs.Instances.{Different, IsInstance, IsNumbered, AreIns
 use Rattle.ur_source.specs.Items.{Item}
 use Rattle.ur_source.specs.Source.{language}
 use Rattle.ur_source.specs.Instances.{IsRoot}
-use Rattle.ur_unfolding.specs.declared.halt.Halt.{Halt}
-use Rattle.ur_unfolding.specs.declared.halt.Halt.TheVariants as halt
-use Rattle.ur_unfolding.specs.Working.{IsOneTooMany, HasOneTooMany, HasLarge, Ends, AllUnfolded, AreUnfolded, most_instances, most_nodes, most_levels}
-use Rattle.ur_pieces.specs.Keys.{IsOf}
-use Rattle.ur_pieces.specs.Standing as pieces
-use Rattle.ur_pieces.specs.declared.opening.Opening.{Opening}
-use Rattle.ur_pieces.specs.Standing.{AreRoots, IsWhole, instances_in}
-use Rattle.ur_pieces.proofs.Lists.{all_so}
-use Rattle.ur_pieces.proofs.Numbered.{instances_differ}
+use Rattle.ur_meaning.specs.declared.halt.Halt.{Halt}
+use Rattle.ur_meaning.specs.declared.halt.Halt.TheVariants as halt
+use Rattle.ur_meaning.specs.Working.{IsOneTooMany, HasOneTooMany, HasLarge, Ends, AllUnfolded, AreUnfolded, most_instances, most_nodes, most_levels}
+use Rattle.ur_unfold_pieces.specs.Keys.{IsOf}
+use Rattle.ur_unfold_pieces.specs.Standing as pieces
+use Rattle.ur_unfold_pieces.specs.declared.opening.Opening.{Opening}
+use Rattle.ur_unfold_pieces.specs.Standing.{AreRoots, IsWhole, instances_in}
+use Rattle.ur_unfold_pieces.proofs.Lists.{all_so}
+use Rattle.ur_unfold_pieces.proofs.PiecesNumbered.{instances_differ}
 use Rattle.ur_unfold.specs.Limits.{IsLarge}
 use Rattle.ur_unfold.specs.Unfolding.{EndsAs}
 use Rattle.ur_unfold.specs.Making.{AreTerms, Ended}

@@ -8,11 +8,11 @@ use Rattle.std.proofs.lemmas.List.Elements.{filter-append}
 use Rattle.ur_rows.specs.declared.normal.NormalType.{NormalType}
 use Rattle.ur_tree.specs.declared.exp.Param.{Param}
 use Rattle.ur_source.specs.Instances.{value_params, IsTarget}
-use Rattle.ur_closing.specs.Held.{Held}
-use Rattle.ur_pieces.specs.declared.opening.Key.{Key}
-use Rattle.ur_pieces.specs.Keys.{instance_of}
-use Rattle.ur_pieces.specs.Rooted.{root_key}
-use Rattle.ur_pieces.proofs.Lists.{the_same, numbered_map}
+use Rattle.ur_unfold_static.specs.Held.{Held}
+use Rattle.ur_unfold_pieces.specs.declared.opening.Key.{Key}
+use Rattle.ur_unfold_pieces.specs.Keys.{instance_of}
+use Rattle.ur_unfold_pieces.specs.Rooted.{root_key}
+use Rattle.ur_unfold_pieces.proofs.Lists.{the_same, numbered_map}
 
 module _ {A B : Type 0} (P : A → B → Type 0) where
   pub zipped_from : (xs : List A) (ys : List B) → ys ≡ [] → AllZip P (take 0 xs) ys

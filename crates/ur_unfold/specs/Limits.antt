@@ -4,8 +4,8 @@ use Rattle.ur_tree.specs.declared.closed.Instance.{Instance}
 use Rattle.ur_meaning.specs.Instances.{TooManyInstances, HasTooManyNodes, IsTooDeep}
 use Rattle.ur_source.specs.Source.{language}
 use Rattle.ur_source.specs.Instances.{IsRoot}
-use Rattle.ur_closed.specs.Sizes.{SomeLarge}
-use Rattle.ur_unfolding.specs.Working.{HasLarge, most_instances, most_nodes, most_levels}
+use Rattle.ur_unfold_pieces.specs.Sizes.{SomeLarge}
+use Rattle.ur_meaning.specs.Working.{HasLarge, most_instances, most_nodes, most_levels}
 
 -- a constructor argument of the instance has more nodes than a normal form may have
 abbrev pub IsLarge : Instance → Type 0

@@ -7,9 +7,9 @@ use Rattle.ur_tree.specs.declared.closed.Instance.{Instance}
 use Rattle.ur_meaning.specs.Instances.{AreInstances}
 use Rattle.ur_source.specs.Source.{language}
 use Rattle.ur_source.specs.Instances.{IsRoot, IsFunctionOf, IsTarget, IsVariant}
-use Rattle.ur_unfolding.specs.declared.halt.Halt.{Halt}
-use Rattle.ur_unfolding.specs.Making.{list_nodes, AreWithin}
-use Rattle.ur_unfolding.specs.Working.{Unfolded, most_instances, most_nodes, most_levels}
+use Rattle.ur_meaning.specs.declared.halt.Halt.{Halt}
+use Rattle.ur_meaning.specs.Making.{list_nodes, AreWithin}
+use Rattle.ur_meaning.specs.Working.{Unfolded, most_instances, most_nodes, most_levels}
 use Rattle.ur_unfold.specs.declared.unfolding.Made.{Made}
 use Rattle.ur_unfold.specs.Unfolding.{EndsAs}
 

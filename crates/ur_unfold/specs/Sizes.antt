@@ -2,8 +2,8 @@
 use Rattle.std.specs.Prelude.{◌≤◌, ℕ}
 use Rattle.std.specs.List.{AllByRecursion}
 use Rattle.ur_rows.specs.Nodes.{most_nodes, nodes}
-use Rattle.ur_closing.specs.Held.{Held, con_at}
-use Rattle.ur_pieces.specs.declared.opening.Key.{Key}
+use Rattle.ur_unfold_static.specs.Held.{Held, con_at}
+use Rattle.ur_unfold_pieces.specs.declared.opening.Key.{Key}
 
 abbrev pub ConIsSmall : Held → ℕ → Type 0
 ConIsSmall held j = nodes (con_at held.cons j) ≤ most_nodes

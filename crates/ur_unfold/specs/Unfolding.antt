@@ -10,10 +10,10 @@ use Rattle.ur_tree.specs.declared.closed.Instance.{Instance}
 use Rattle.ur_meaning.specs.Instances.{HasTooManyNodes, IsTooDeep}
 use Rattle.ur_source.specs.Source.{language}
 use Rattle.ur_source.specs.Instances.{IsRoot}
-use Rattle.ur_unfolding.specs.declared.halt.Halt.{Halt}
-use Rattle.ur_unfolding.specs.declared.halt.Halt.TheVariants as halt
-use Rattle.ur_unfolding.specs.Working.{IsOneTooMany, HasOneTooMany, most_instances, most_nodes, most_levels}
-use Rattle.ur_pieces.specs.Keys.{IsOf}
+use Rattle.ur_meaning.specs.declared.halt.Halt.{Halt}
+use Rattle.ur_meaning.specs.declared.halt.Halt.TheVariants as halt
+use Rattle.ur_meaning.specs.Working.{IsOneTooMany, HasOneTooMany, most_instances, most_nodes, most_levels}
+use Rattle.ur_unfold_pieces.specs.Keys.{IsOf}
 use Rattle.ur_unfold.specs.Heads.{IsFullName}
 use Rattle.ur_unfold.specs.Limits.{HasLargeArgument}
 

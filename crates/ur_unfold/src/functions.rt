@@ -1,22 +1,21 @@
 //! First-order functions.
 ghost use Rattle.std.specs.Prelude.{◌≡◌, map, length, IfOk, OnOk};
 ghost use Rattle.ur_source.specs.Reading.{result_type};
-ghost use Rattle.ur_closing.specs.Scopes.{cons_of};
-ghost use Rattle.ur_pieces.specs.Keys.{instance_of};
-ghost use Rattle.ur_pieces.specs.Standing.{instances_in};
+ghost use Rattle.ur_unfold_static.specs.Scopes.{cons_of};
+ghost use Rattle.ur_unfold_pieces.specs.Keys.{instance_of};
+ghost use Rattle.ur_unfold_pieces.specs.Standing.{instances_in};
 ghost use Rattle.ur_unfold.specs.Heads.{HeadAt, HeadsAre, IsFullName, IsHeadOf, IsPushed};
 ghost use Rattle.ur_unfold.specs.Typing.{HasTypes, IsHead};
 
 use crate::params::params_of;
 use std::alloc::Global;
 use ur_base::{List, Memory, Text};
-use ur_closed::result_type;
-use ur_closing::{Closing, Scope};
-use ur_pieces::{Key, Opening};
 use ur_rows::NormalType;
 use ur_terms::{Function, Term};
 use ur_tree::{Function as Source, Typed};
-use ur_types::ValueType;
+use ur_unfold_pieces::{Key, Opening, result_type};
+use ur_unfold_static::{Closing, Scope};
+use ur_values::ValueType;
 
 /// The first-order functions of the instances, in order of their numbers, with these bodies.
 pub fn functions_of(

@@ -4,9 +4,9 @@ ghost use Rattle.std.specs.List.{AllByRecursion};
 ghost use Rattle.ur_unfold.specs.Sizes.{ConIsSmall, KeyIsSmall};
 
 use ur_base::List;
-use ur_closing::Closing;
-use ur_pieces::{Key, Opening};
 use ur_rows::is_within;
+use ur_unfold_pieces::{Key, Opening};
+use ur_unfold_static::Closing;
 
 /// Whether no constructor of an instance has too many nodes.
 pub fn are_small(table: &Opening<'_>) -> bool

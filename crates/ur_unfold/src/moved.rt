@@ -4,7 +4,7 @@ ghost use Rattle.std.specs.Prelude.{◌≡◌};
 use ur_base::List;
 use ur_terms::Function;
 use ur_tree::{Closed, Typed};
-use ur_types::ValueType;
+use ur_values::ValueType;
 
 /// The instances of a source, with what it declares.
 pub fn closed_of(

@@ -2,14 +2,14 @@
 ghost use Rattle.std.specs.Prelude.{◌≡◌, ◌∷◌, [], ◌++◌, map, IfOk, OnOk};
 ghost use Rattle.ur_source.specs.Reading.{closed_type};
 ghost use Rattle.ur_source.specs.Instances.{value_params};
-ghost use Rattle.ur_closing.specs.Scopes.{cons_of};
+ghost use Rattle.ur_unfold_static.specs.Scopes.{cons_of};
 
 use std::alloc::Global;
 use ur_base::{List, Memory, Text};
-use ur_closed::closed_type;
-use ur_closing::{Closing, Scope};
 use ur_tree::Param;
-use ur_types::ValueType;
+use ur_unfold_pieces::closed_type;
+use ur_unfold_static::{Closing, Scope};
+use ur_values::ValueType;
 
 /// The types of the value parameters under the scope.
 pub fn params_of(

@@ -8,8 +8,8 @@ ghost use Rattle.ur_unfold.specs.Unfolding.{EndsAs, ExplainsStop, IsNamed, Refus
 use crate::functions::full_name;
 use std::alloc::Global;
 use ur_base::{List, Memory, Refusal, Span, Stop, Text};
+use ur_meaning::Halt;
 use ur_tree::Typed;
-use ur_unfolding::Halt;
 
 /// The refusal with this code and these texts, which stands at no place of the source.
 fn refusal(alloc: Global, code: u8, left: Text, right: &[u8]) -> Result<Stop, Memory>

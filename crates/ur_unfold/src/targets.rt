@@ -3,17 +3,16 @@ ghost use Rattle.std.specs.Prelude.{◌≡◌, [], IfOk};
 ghost use Rattle.std.specs.List.{AllZip};
 ghost use Rattle.ur_source.specs.Reading.{closed_type};
 ghost use Rattle.ur_source.specs.Instances.{IsTarget, IsVariant};
-ghost use Rattle.ur_pieces.specs.Rooted.{root_key};
-ghost use Rattle.ur_pieces.specs.Standing.{instances_in};
+ghost use Rattle.ur_unfold_pieces.specs.Rooted.{root_key};
+ghost use Rattle.ur_unfold_pieces.specs.Standing.{instances_in};
 
 use std::alloc::Global;
 use ur_base::{List, Memory};
-use ur_closed::closed_type;
-use ur_closing::Scope;
-use ur_pieces::{Key, Opening, number_of};
 use ur_rows::NormalType;
 use ur_tree::{Typed, Variant};
-use ur_types::ValueType;
+use ur_unfold_pieces::{Key, Opening, closed_type, number_of};
+use ur_unfold_static::Scope;
+use ur_values::ValueType;
 
 /// The instances of the routes. There is no memory for a target that is no root.
 pub fn targets_of(alloc: Global, typed: &Typed, table: &Opening<'_>) -> Result<List<u32>, Memory>

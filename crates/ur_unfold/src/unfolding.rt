@@ -3,7 +3,7 @@ ghost use Rattle.std.specs.Prelude.{IfOk, OnOk};
 ghost use Rattle.ur_base.specs.Stopping.{IfRefused};
 ghost use Rattle.ur_source.specs.Instances.{IsClosed};
 ghost use Rattle.ur_source.specs.Kept.{KeepsMeaning};
-ghost use Rattle.ur_pieces.specs.Standing.{instances_in};
+ghost use Rattle.ur_unfold_pieces.specs.Standing.{instances_in};
 ghost use Rattle.ur_unfold.specs.Limits.{IsSmall};
 ghost use Rattle.ur_unfold.specs.Making.{AreMade, AreTerms};
 ghost use Rattle.ur_unfold.specs.Unfolding.{ExplainsUnfolded};
@@ -15,12 +15,12 @@ use crate::refusals::stop_of;
 use crate::targets::{targets_of, variants_of};
 use std::alloc::Global;
 use ur_base::{List, Stop};
-use ur_opening::Source;
-use ur_pieces::Opening;
+use ur_meaning::{Halt, all_terms};
 use ur_terms::{Function, Term};
 use ur_tree::{Closed, Typed};
-use ur_types::ValueType;
-use ur_unfolding::{Halt, all_terms};
+use ur_unfold_pieces::Opening;
+use ur_unfold_table::Source;
+use ur_values::ValueType;
 
 /// The instances of a checked source, which keep its meaning. What has no form becomes a term that fits no type, so that
 /// nothing is asked of the source. There is no memory for a target that is no root.

@@ -2,3 +2,6 @@ pub mod Equal
 pub mod Equations
 mod Examples
 pub mod Order
+pub mod TypesEquations
+pub mod Cells
+pub mod Repeats

@@ -8,8 +8,8 @@ use Rattle.std.proofs.lemmas.Option.{slice_get_within, get_or_from_slice_get}
 use Rattle.std.proofs.lemmas.Slice.Zip.{AllZip-left}
 use Rattle.std.specs.Str.{IsUtf8}
 use Rattle.ur_values.specs.declared.schema.TableShape.{TableShape}
-use Rattle.ur_types.specs.declared.types.ValueType.{ValueType}
-use Rattle.ur_types.specs.declared.types.ValueType.TheVariants as ty
+use Rattle.ur_values.specs.declared.types.ValueType.{ValueType}
+use Rattle.ur_values.specs.declared.types.ValueType.TheVariants as ty
 use Rattle.ur_sql.specs.Typing.{QueryFits, ChangeFits}
 use Rattle.ur_tags.specs.declared.routes.Route.{Route}
 use Rattle.ur_terms.specs.declared.term.Branch.{Branch}
@@ -18,10 +18,10 @@ use Rattle.ur_terms.specs.declared.term.Function.{Function}
 use Rattle.ur_terms.specs.Types.{Signature, OpType, Cover, IsXml, HasType, FitsFunction}
 use Rattle.ur_code.specs.declared.code.Code.{Code}
 use Rattle.ur_code.specs.Fits.{signature, FitsRoute, Fits}
-use Rattle.ur_typing.specs.Saying.{TwoTexts}
-use Rattle.ur_typing.specs.Misfits.{UnlikeDeclared}
-use Rattle.ur_typing.specs.Wanting.{patterns_in}
-use Rattle.ur_typing.proofs.SameTypes.{many_same}
+use Rattle.ur_verify_operations.specs.Saying.{TwoTexts}
+use Rattle.ur_verify_operations.specs.Misfits.{UnlikeDeclared}
+use Rattle.ur_verify_operations.specs.Wanting.{patterns_in}
+use Rattle.ur_verify_operations.proofs.SameTypes.{many_same}
 use Rattle.ur_verify.specs.Laws.{MisfitsAreCauses}
 use Rattle.ur_verify.specs.Misfits.{StandsIn, itself, in_operand, in_argument, in_bound, in_let, in_test, in_yes, in_no, in_matched, in_branch, in_rows, in_body, MisfitAt, at_variable, at_string, at_operation, at_call, at_test, at_no, at_patterns, at_pattern, at_branch, at_rows, at_body, FunctionMisfit, RouteMisfit, at_target, at_params, at_page, at_form, RoutesMisfit, at_targets, at_route, in_functions, in_queries, in_changes, in_routes, in_tables}
 use Rattle.ur_verify.specs.Terms.{HaveAll, BranchFits, BranchesFit}

@@ -4,18 +4,18 @@ use Rattle.std.specs.Prelude.{slice_get}
 use Rattle.std.specs.Prelude.{All}
 use Rattle.std.proofs.lemmas.List.{take_all}
 use Rattle.std.proofs.lemmas.List.Elements.{All-more, All-get_or}
-use Rattle.ur_types.specs.declared.types.ValueType.{ValueType}
-use Rattle.ur_types.specs.declared.types.ValueType.TheVariants as ty
+use Rattle.ur_values.specs.declared.types.ValueType.{ValueType}
+use Rattle.ur_values.specs.declared.types.ValueType.TheVariants as ty
 use Rattle.ur_terms.specs.declared.term.Op.{Op}
 use Rattle.ur_terms.specs.declared.term.Branch.{Branch}
 use Rattle.ur_terms.specs.declared.term.Term.{Term}
 use Rattle.ur_terms.specs.declared.term.Term.TheVariants as t
 use Rattle.ur_terms.specs.Types.{Signature, OpType, Binds, Cover, IsXml, HasType}
-use Rattle.ur_typing.specs.declared.misfit.Untyped.{Untyped}
-use Rattle.ur_typing.specs.Answering.{Answers}
-use Rattle.ur_typing.specs.Wanting.{patterns_in}
-use Rattle.ur_typing.proofs.Replies.{answers_by}
-use Rattle.ur_typing.proofs.SameTypes.{many_same}
+use Rattle.ur_verify_operations.specs.declared.misfit.Untyped.{Untyped}
+use Rattle.ur_verify_operations.specs.Answering.{Answers}
+use Rattle.ur_verify_operations.specs.Wanting.{patterns_in}
+use Rattle.ur_verify_operations.proofs.Replies.{answers_by}
+use Rattle.ur_verify_operations.proofs.SameTypes.{many_same}
 use Rattle.ur_verify.specs.Terms.{HaveAll, BranchFits, BranchesFit}
 use Rattle.ur_verify.proofs.Once.{one_type, binds_once}
 use Rattle.ur_verify.proofs.Rows.{make_from, make_to, call_from, call_to, let_from, let_to, if_to, each_from, each_to, case_from, case_to}

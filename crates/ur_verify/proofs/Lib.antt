@@ -1,3 +1,6 @@
+pub mod HavingKinds
+pub mod Loops
+pub mod Wholes
 pub mod Causes
 pub mod Inferring
 pub mod Once

@@ -2,8 +2,8 @@
 use Rattle.std.proofs.Common.{◌≡◌, true, List, [], ◌∷◌, ◌++◌, drop, Option, Some, None, refl, sym, ap, ◌∙◌, subst, arith}
 use Rattle.std.specs.Prelude.{map, Contains}
 use Rattle.ur_values.specs.declared.value.Tag.{Tag}
-use Rattle.ur_types.specs.declared.types.ValueType.{ValueType}
-use Rattle.ur_types.specs.declared.types.ValueType.TheVariants as ty
+use Rattle.ur_values.specs.declared.types.ValueType.{ValueType}
+use Rattle.ur_values.specs.declared.types.ValueType.TheVariants as ty
 use Rattle.ur_terms.specs.declared.term.Op.{Op}
 use Rattle.ur_terms.specs.declared.term.Op.TheVariants as op
 use Rattle.ur_terms.specs.declared.term.Pattern.{Pattern}
@@ -12,13 +12,13 @@ use Rattle.ur_terms.specs.declared.term.Term.{Term, Row_of-Term, end_of-Term, mo
 use Rattle.ur_terms.specs.declared.term.Term.TheVariants as t
 use Rattle.ur_terms.specs.Values.{field_at, without_field, fields_together}
 use Rattle.ur_terms.specs.Types.{Signature, typed_field, record_type, form_type, answer_type, args_of, OpType, Holds, holds_bodies, holds_fields, ElementStands, of_its_own, as_its_parts, Binds, Cover, by_any, by_bool, by_option, by_list, by_datatype, patterns_of, HasType, OneHasType, HaveTypes, BranchesHave}
-use Rattle.ur_typing.specs.declared.markup.Place.{Place}
-use Rattle.ur_typing.specs.declared.markup.Place.TheVariants as place
-use Rattle.ur_typing.specs.Parts.{place_in}
-use Rattle.ur_typing.proofs.FieldTypes.{Pairs, pairs, repaired}
-use Rattle.ur_typing.proofs.Flows.{flow_from}
-use Rattle.ur_typing.proofs.Table.{OfPlace, place_stands, flow_place, same_one, same_two}
-use Rattle.ur_typing.proofs.SameTypes.{many_same, option_same, record_same}
+use Rattle.ur_verify_operations.specs.declared.markup.Place.{Place}
+use Rattle.ur_verify_operations.specs.declared.markup.Place.TheVariants as place
+use Rattle.ur_verify_operations.specs.Parts.{place_in}
+use Rattle.ur_verify_operations.proofs.FieldTypes.{Pairs, pairs, repaired}
+use Rattle.ur_verify_operations.proofs.Flows.{flow_from}
+use Rattle.ur_verify_operations.proofs.Table.{OfPlace, place_stands, flow_place, same_one, same_two}
+use Rattle.ur_verify_operations.proofs.SameTypes.{many_same, option_same, record_same}
 use Rattle.ur_verify.specs.Laws.{TypesAreUnique}
 
 some_same : {A : Type 0} {x y : A} → Some x ≡ Some y → x ≡ y

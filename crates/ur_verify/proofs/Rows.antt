@@ -5,15 +5,15 @@ use Rattle.std.specs.List.{AllByRecursion}
 use Rattle.std.proofs.lemmas.List.Elements.{All-from_recursion, recursion_from_All}
 use mathlib.Core.Former.{Count}
 use denote.Hole.Carrier
-use Rattle.ur_types.specs.declared.types.ValueType.{ValueType}
-use Rattle.ur_types.specs.declared.types.ValueType.TheVariants as ty
+use Rattle.ur_values.specs.declared.types.ValueType.{ValueType}
+use Rattle.ur_values.specs.declared.types.ValueType.TheVariants as ty
 use Rattle.ur_terms.specs.declared.term.Op.{Op}
 use Rattle.ur_terms.specs.declared.term.Branch.{Branch}
 use Rattle.ur_terms.specs.declared.term.Term.TheBlock as block
 use Rattle.ur_terms.specs.declared.term.Term.{Term, Row_of-Term, end_of-Term, more_of-Term, Row_of-Branch, end_of-Branch, more_of-Branch, items-the_row-Term, items_hidden-the_row-Term-0, items-the_row-Branch, items_hidden-the_row-Branch-2}
 use Rattle.ur_terms.specs.declared.term.Term.TheVariants as t
 use Rattle.ur_terms.specs.Types.{Signature, OpType, Cover, patterns_of, IsXml, HasType, HaveTypes, BranchesHave}
-use Rattle.ur_typing.specs.Wanting.{patterns_in}
+use Rattle.ur_verify_operations.specs.Wanting.{patterns_in}
 use Rattle.ur_verify.specs.Terms.{HaveAll, BranchFits, BranchesFit}
 use Rattle.ur_verify.proofs.Once.{no_cover}
 

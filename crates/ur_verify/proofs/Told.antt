@@ -5,21 +5,21 @@ use Rattle.std.specs.List.{Contains}
 use Rattle.std.specs.Result.{IsErrAnd}
 use Rattle.std.proofs.lemmas.List.{nil_from_length}
 use Rattle.std.proofs.lemmas.Option.{slice_get_read, slice_get-get_or}
-use Rattle.ur_types.specs.declared.types.ValueType.{ValueType}
-use Rattle.ur_types.specs.declared.types.ValueType.TheVariants as ty
-use Rattle.ur_types.specs.Texts.{Names}
+use Rattle.ur_values.specs.declared.types.ValueType.{ValueType}
+use Rattle.ur_values.specs.declared.types.ValueType.TheVariants as ty
+use Rattle.ur_values.specs.Texts.{Names}
 use Rattle.ur_terms.specs.declared.term.Op.{Op}
 use Rattle.ur_terms.specs.declared.term.Branch.{Branch}
 use Rattle.ur_terms.specs.declared.term.Term.{Term}
 use Rattle.ur_terms.specs.declared.term.Term.TheVariants as t
 use Rattle.ur_terms.specs.Types.{Signature, OpType, Binds, Cover, HasType}
-use Rattle.ur_typing.specs.declared.misfit.Untyped.{Untyped}
-use Rattle.ur_typing.specs.declared.misfit.Untyped.TheVariants as untyped
-use Rattle.ur_typing.specs.Answering.{Refuses, Answers, Tells, Says}
-use Rattle.ur_typing.specs.Misfits.{OperationMisfit, PatternMisfit, NoText}
-use Rattle.ur_typing.specs.Saying.{TwoTexts, FirstUnlike}
-use Rattle.ur_typing.specs.Wanting.{patterns_in}
-use Rattle.ur_typing.proofs.Told.{says_by}
+use Rattle.ur_verify_operations.specs.declared.misfit.Untyped.{Untyped}
+use Rattle.ur_verify_operations.specs.declared.misfit.Untyped.TheVariants as untyped
+use Rattle.ur_verify_operations.specs.Answering.{Refuses, Answers, Tells, Says}
+use Rattle.ur_verify_operations.specs.Misfits.{OperationMisfit, PatternMisfit, NoText}
+use Rattle.ur_verify_operations.specs.Saying.{TwoTexts, FirstUnlike}
+use Rattle.ur_verify_operations.specs.Wanting.{patterns_in}
+use Rattle.ur_verify_operations.proofs.Told.{says_by}
 use Rattle.ur_verify.specs.Misfits.{itself, in_operand, in_argument, in_bound, in_let, in_test, in_yes, in_no, in_matched, in_branch, in_rows, in_body, NoVariable, UnlikeCall, UnlikePatterns, NoList, at_variable, at_string, at_operation, at_call, at_test, at_no, at_patterns, at_pattern, at_branch, at_rows, at_body, TermMisfit, TermsMisfit, UnlikeTerm, UnlikeXml, BranchMisfit, UnlikeBranch, BranchesMisfit, no_branch, in_one, unlike_first}
 use Rattle.ur_verify.specs.Terms.{HaveAll, BranchFits}
 use Rattle.ur_verify.proofs.Once.{no_cover}

@@ -1,11 +1,11 @@
 -- Laws of types.
 use Rattle.std.specs.Prelude.{◌≡◌, List}
-use Rattle.ur_types.specs.declared.types.ValueType.{ValueType}
+use Rattle.ur_values.specs.declared.types.ValueType.{ValueType}
 use Rattle.ur_terms.specs.declared.term.Term.{Term}
 use Rattle.ur_terms.specs.Types.{Signature, HasType}
 use Rattle.ur_code.specs.declared.code.Code.{Code}
 use Rattle.ur_code.specs.Fits.{Fits}
-use Rattle.ur_typing.specs.Saying.{TwoTexts}
+use Rattle.ur_verify_operations.specs.Saying.{TwoTexts}
 use Rattle.ur_verify.specs.Misfits.{CodeMisfit}
 
 -- a term has at most one type

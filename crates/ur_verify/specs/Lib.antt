@@ -1,5 +1,6 @@
+pub mod Scope
 pub mod Laws
 pub mod Misfits
-pub mod Scope
+pub mod VerifyScope
 pub mod Terms
 pub mod Verifying

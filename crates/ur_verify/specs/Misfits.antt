@@ -3,8 +3,8 @@ use Rattle.std.specs.Prelude.{◌≡◌, ◌≢◌, ◌⊎◌, ℕ, true, List, 
 use Rattle.std.specs.List.{Contains}
 use Rattle.std.specs.Str.{IsUtf8}
 use Rattle.ur_values.specs.declared.schema.TableShape.{TableShape}
-use Rattle.ur_types.specs.declared.types.ValueType.{ValueType}
-use Rattle.ur_types.specs.declared.types.ValueType.TheVariants as ty
+use Rattle.ur_values.specs.declared.types.ValueType.{ValueType}
+use Rattle.ur_values.specs.declared.types.ValueType.TheVariants as ty
 use Rattle.ur_sql.specs.declared.query.Query.{Query}
 use Rattle.ur_sql.specs.declared.change.Change.{Change}
 use Rattle.ur_sql.specs.Typing.{QueryFits, ChangeFits}
@@ -18,9 +18,9 @@ use Rattle.ur_terms.specs.Types.{Signature, OpType, Binds, Cover, IsXml, HasType
 use Rattle.ur_code.specs.declared.code.Code.{Code}
 use Rattle.ur_code.specs.Fits.{signature}
 use Rattle.ur_code.specs.RouteTypes.{route_params}
-use Rattle.ur_typing.specs.Misfits.{OperationMisfit, PatternMisfit, UnlikeDeclared, NoText}
-use Rattle.ur_typing.specs.Saying.{TwoTexts, two_types, one_type, nothing, OtherTypes}
-use Rattle.ur_typing.specs.Wanting.{patterns_in}
+use Rattle.ur_verify_operations.specs.Misfits.{OperationMisfit, PatternMisfit, UnlikeDeclared, NoText}
+use Rattle.ur_verify_operations.specs.Saying.{TwoTexts, two_types, one_type, nothing, OtherTypes}
+use Rattle.ur_verify_operations.specs.Wanting.{patterns_in}
 use Rattle.ur_verify.specs.Terms.{HaveAll, BranchFits}
 
 -- The part, under variables of the inner types, stands in a term under variables of these types.

@@ -1,7 +1,7 @@
 -- Terms and branches as lists.
 use Rattle.std.specs.Prelude.{List, ◌++◌, ◌<◌, length, All}
 use Rattle.std.specs.List.{AllZip}
-use Rattle.ur_types.specs.declared.types.ValueType.{ValueType}
+use Rattle.ur_values.specs.declared.types.ValueType.{ValueType}
 use Rattle.ur_terms.specs.declared.term.Term.{Term}
 use Rattle.ur_terms.specs.declared.term.Branch.{Branch}
 use Rattle.ur_terms.specs.Types.{Signature, Binds, HasType}

@@ -3,7 +3,7 @@ use Rattle.std.specs.Prelude.{◌≡◌, ◌≢◌}
 use Rattle.ur_base.specs.declared.refusal.Refusal.{Refusal}
 use Rattle.ur_code.specs.declared.code.Code.{Code}
 use Rattle.ur_code.specs.Fits.{Fits}
-use Rattle.ur_typing.specs.Saying.{IsFound}
+use Rattle.ur_verify_operations.specs.Saying.{IsFound}
 use Rattle.ur_verify.specs.Misfits.{CodeMisfit}
 
 -- The code does not fit. At a place of the code where its rule is broken the two texts are those of what was found and of

@@ -1,9 +1,9 @@
 //! The types of the variables in scope.
 ghost use Rattle.std.specs.Prelude.{◌≡◌, slice_get};
 ghost use Rattle.std.specs.Option.{option_copied};
-ghost use Rattle.ur_verify.specs.Scope.{types_in};
+ghost use Rattle.ur_verify.specs.VerifyScope.{types_in};
 
-use ur_types::ValueType;
+use ur_values::ValueType;
 
 /// The parameters of a function, and the variables that a binder binds, over those around it.
 #[derive(Clone, Copy)]

@@ -3,19 +3,18 @@ ghost use Rattle.std.specs.Prelude.{◌≡◌, ◌↔◌, IsTrue, IsUtf8, All};
 ghost use Rattle.ur_sql.specs.Typing.{QueryFits, ChangeFits};
 ghost use Rattle.ur_terms.specs.Types.{FitsFunction};
 ghost use Rattle.ur_code.specs.Fits.{signature};
-ghost use Rattle.ur_typing.specs.Answering.{Answers, Says};
+ghost use Rattle.ur_verify_operations.specs.Answering.{Answers, Says};
 ghost use Rattle.ur_verify.specs.Misfits.{ChangesMisfit, FunctionMisfit, FunctionsMisfit, QueriesMisfit, TablesMisfit};
 
 use crate::environment::Environment;
 use crate::infer::type_of;
+use crate::{change_fits, query_fits};
 use std::alloc::Global;
 use std::str;
 use ur_code::Code;
-use ur_fits::{change_fits, query_fits};
 use ur_terms::Function;
-use ur_types::same_type;
-use ur_typing::{Untyped, mismatch, no_type};
-use ur_values::TableShape;
+use ur_values::{TableShape, same_type};
+use ur_verify_operations::{Untyped, mismatch, no_type};
 
 /// A function's body has its result's type.
 fn function_fits(alloc: Global, code: &Code, function: &Function) -> Result<(), Untyped>

@@ -1,15 +1,15 @@
 //! The type of a term.
 ghost use Rattle.std.specs.Prelude.{◌≡◌, ◌↔◌, [], ◌∷◌, IsTrue, IsUtf8, Some, slice_get};
-ghost use Rattle.ur_types.specs.declared.types.ValueType.{ValueType};
-ghost use Rattle.ur_types.specs.declared.types.ValueType.TheVariants as ty;
+ghost use Rattle.ur_values.specs.declared.types.ValueType.{ValueType};
+ghost use Rattle.ur_values.specs.declared.types.ValueType.TheVariants as ty;
 ghost use Rattle.ur_terms.specs.declared.term.Term.TheVariants as t;
 ghost use Rattle.ur_terms.specs.Types.{HasType, IsXml};
 ghost use Rattle.ur_values.specs.Values.{IsInt};
 ghost use Rattle.ur_code.specs.Fits.{signature};
-ghost use Rattle.ur_typing.specs.Answering.{Answers, Says};
-ghost use Rattle.ur_typing.specs.Misfits.{NoText};
+ghost use Rattle.ur_verify_operations.specs.Answering.{Answers, Says};
+ghost use Rattle.ur_verify_operations.specs.Misfits.{NoText};
 ghost use Rattle.ur_verify.specs.Misfits.{BranchMisfit, BranchesMisfit, NoList, NoVariable, TermMisfit, TermsMisfit, UnlikeBranch, UnlikeCall, UnlikeTerm, UnlikeXml};
-ghost use Rattle.ur_verify.specs.Scope.{types_in};
+ghost use Rattle.ur_verify.specs.VerifyScope.{types_in};
 ghost use Rattle.ur_verify.specs.Terms.{HaveAll, BranchFits, BranchesFit};
 
 use crate::environment::{Environment, variable};
@@ -18,8 +18,8 @@ use std::str;
 use ur_base::{List, Text};
 use ur_code::Code;
 use ur_terms::{Branch, Op, Term};
-use ur_types::{ValueType, copy_type, same_type, same_types};
-use ur_typing::{
+use ur_values::{ValueType, copy_type, same_type, same_types};
+use ur_verify_operations::{
     Untyped, bound_by, covers, mismatch, no_type, operation_type, unlike, unlike_these,
 };
 

@@ -2,14 +2,14 @@
 ghost use Rattle.std.specs.Prelude.{◌≡◌, length};
 ghost use Rattle.std.specs.List.{AllZip};
 ghost use Rattle.ur_code.specs.Fits.{FitsRoute};
-ghost use Rattle.ur_typing.specs.Answering.{Answers, Says};
+ghost use Rattle.ur_verify_operations.specs.Answering.{Answers, Says};
 ghost use Rattle.ur_verify.specs.Misfits.{RouteMisfit, RoutesMisfit};
 
 use std::alloc::Global;
 use ur_code::Code;
 use ur_tags::Route;
-use ur_types::{ValueType, same_type, same_types};
-use ur_typing::{Untyped, mismatch, no_type, route_types, unlike_these};
+use ur_values::{ValueType, same_type, same_types};
+use ur_verify_operations::{Untyped, mismatch, no_type, route_types, unlike_these};
 
 /// The function takes the route's arguments and gives a page, and a route that answers GET has no form.
 fn target_fits(alloc: Global, code: &Code, route: &Route, target: u32) -> Result<(), Untyped>

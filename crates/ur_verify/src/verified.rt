@@ -2,9 +2,9 @@
 ghost use Rattle.std.specs.Prelude.{◌≡◌, ◌≢◌, IfOk};
 ghost use Rattle.ur_base.specs.Stopping.{IfRefused};
 ghost use Rattle.ur_code.specs.Fits.{Fits};
-ghost use Rattle.ur_typing.specs.Answering.{Answers, Says};
+ghost use Rattle.ur_verify_operations.specs.Answering.{Answers, Says};
 ghost use Rattle.ur_verify.specs.Misfits.{CodeMisfit};
-ghost use Rattle.ur_typing.specs.Saying.{IsFound};
+ghost use Rattle.ur_verify_operations.specs.Saying.{IsFound};
 ghost use Rattle.ur_verify.specs.Verifying.{ExplainsUnfit};
 
 use crate::functions::{changes_fit, functions_fit, queries_fit, tables_fit};
@@ -13,7 +13,7 @@ use std::alloc::Global;
 use std::marker::Model;
 use ur_base::{Refusal, Span, Stop};
 use ur_code::Code;
-use ur_typing::{Misfit, Untyped};
+use ur_verify_operations::{Misfit, Untyped};
 
 /// Code that fits its types: the first-order typing table holds of it. It is made by `verify` alone. Contracts see it as
 /// the code.
@@ -27,7 +27,7 @@ impl Model for Verified {
     ghost use Rattle.ur_code.specs.declared.code.Code.{Code};
     ghost use Rattle.ur_code.specs.Fits.{Fits};
     ghost use Rattle.ur_values.specs.contracts.value.Value as value;
-    ghost use Rattle.ur_types.specs.contracts.types.ValueType as value_type;
+    ghost use Rattle.ur_values.specs.contracts.types.ValueType as value_type;
     ghost use Rattle.ur_sql.specs.contracts.scalar.Scalar as scalar;
     ghost use Rattle.ur_terms.specs.contracts.term.Term as term;
 

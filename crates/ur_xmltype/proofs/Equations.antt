@@ -11,7 +11,7 @@ use Rattle.ur_rows.specs.declared.normal.Part.{Part}
 use Rattle.ur_rows.specs.declared.normal.NormalType.TheVariants as ty
 use Rattle.ur_rows.proofs.Shapes.{form-made}
 use Rattle.ur_rows.proofs.Order.{parts-row}
-use Rattle.ur_type_words.specs.Places.{sort_of, fields, fields_found}
+use Rattle.ur_tree.specs.Places.{sort_of, fields, fields_found}
 use Rattle.ur_xmltype.specs.Literal.{row_of_parts}
 
 pub sort_of-Form : (r : List Part) → sort_of (ty.Form r) ≡ Some fields

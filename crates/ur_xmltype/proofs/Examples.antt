@@ -12,7 +12,7 @@ use Rattle.ur_syntax.specs.declared.xml.AttrValue.TheVariants as attr_value
 use Rattle.ur_values.specs.declared.value.Tag.TheVariants as tag
 use Rattle.ur_values.specs.declared.value.FieldKind.TheVariants as field_kind
 use Rattle.ur_rows.specs.declared.normal.Label.TheVariants as label
-use Rattle.ur_type_words.specs.Places.{in_body, in_table, in_row, in_form, in_fields, page, table}
+use Rattle.ur_tree.specs.Places.{in_body, in_table, in_row, in_form, in_fields, page, table}
 use Rattle.ur_xmltype.specs.Tags.{node_with, element, input, submit}
 use Rattle.ur_xmltype.specs.Literal.{text_at, first_of, fault_of_sort}
 

@@ -8,9 +8,9 @@ use Rattle.ur_syntax.specs.declared.xml.XmlPart.{XmlPart}
 use Rattle.ur_rows.specs.declared.normal.Label.{Label}
 use Rattle.ur_rows.specs.declared.normal.Part.{Part}
 use Rattle.ur_rows.specs.Apart.{Assumptions, Apart}
-use Rattle.ur_type_words.specs.Places.{Place, Sort}
-use Rattle.ur_type_words.specs.Places as places
-use Rattle.ur_type_words.specs.Text.{Names, apart_from, row_text}
+use Rattle.ur_tree.specs.Places.{Place, Sort}
+use Rattle.ur_tree.specs.Places as places
+use Rattle.ur_tree.specs.Text.{Names, apart_from, row_text}
 use Rattle.ur_xmltype.specs.Tags.{repeated, node_with}
 use Rattle.ur_xmltype.specs.Literal.{fault_of_sort}
 

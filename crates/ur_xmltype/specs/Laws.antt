@@ -8,8 +8,8 @@ use Rattle.ur_syntax.specs.declared.xml.XmlForm.{Row_of-XmlPart, items-the_row-X
 use Rattle.ur_rows.specs.declared.normal.Label.{Label}
 use Rattle.ur_rows.specs.declared.normal.Part.{Part}
 use Rattle.ur_rows.specs.Apart.{Assumptions, AreApart}
-use Rattle.ur_type_words.specs.Places.{Place, Sort}
-use Rattle.ur_type_words.specs.Text.{Names}
+use Rattle.ur_tree.specs.Places.{Place, Sort}
+use Rattle.ur_tree.specs.Text.{Names}
 use Rattle.ur_xmltype.specs.Tags.{node_with}
 use Rattle.ur_xmltype.specs.Literal.{is_framed}
 use Rattle.ur_xmltype.specs.Faults.{IsBadTag, IsBadFrame, IsMeeting}

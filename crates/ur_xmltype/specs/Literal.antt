@@ -9,7 +9,7 @@ use Rattle.ur_rows.specs.declared.normal.NormalType.{NormalType}
 use Rattle.ur_rows.specs.declared.normal.NormalType.TheVariants as ty
 use Rattle.ur_rows.specs.declared.normal.Part.{Part}
 use Rattle.ur_rows.specs.Made.{form_of}
-use Rattle.ur_type_words.specs.Places.{Place, holds_text, holds_fields, drops_blank, place_type, Sort, page, body, table, row, fields, sort_of}
+use Rattle.ur_tree.specs.Places.{Place, holds_text, holds_fields, drops_blank, place_type, Sort, page, body, table, row, fields, sort_of}
 use Rattle.ur_xmltype.specs.Tags.{field_of}
 
 -- ---- text

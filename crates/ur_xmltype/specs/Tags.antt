@@ -15,7 +15,7 @@ use Rattle.ur_values.specs.declared.value.FieldKind.TheVariants as field_kind
 use Rattle.ur_tags.specs.Show.{tag_word}
 use Rattle.ur_rows.specs.declared.normal.Label.{Label}
 use Rattle.ur_rows.specs.Normal.{Known, label_of}
-use Rattle.ur_type_words.specs.Places.{Place, in_form, is_flow, holds_fields, inside, may_have_value}
+use Rattle.ur_tree.specs.Places.{Place, in_form, is_flow, holds_fields, inside, may_have_value}
 
 abbrev pub all_tags : List Tag
 all_tags = tag.Head ∷ tag.Title ∷ tag.Body ∷ tag.P ∷ tag.Div ∷ tag.Span ∷ tag.B ∷ tag.I ∷ tag.Em ∷ tag.Strong ∷ tag.H1 ∷ tag.H2 ∷ tag.H3 ∷ tag.H4 ∷ tag.Ul ∷ tag.Ol ∷ tag.Li ∷ tag.Pre ∷ tag.Code ∷ tag.Br ∷ tag.Hr

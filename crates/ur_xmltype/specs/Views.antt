@@ -1,8 +1,8 @@
 -- The places, sorts, kinds of attributes and tags of the code, as the definitions have them.
 use Rattle.std.specs.Prelude.{ℕ, List, [], ◌∷◌}
 use Rattle.std.specs.Option.{option_copied}
-use Rattle.ur_type_words.specs.Places.{Place, Sort}
-use Rattle.ur_type_words.specs.Places as places
+use Rattle.ur_tree.specs.Places.{Place, Sort}
+use Rattle.ur_tree.specs.Places as places
 use Rattle.ur_xmltype.specs.declared.places.Place.{Place as CodePlace}
 use Rattle.ur_xmltype.specs.declared.places.Place.TheVariants as place
 use Rattle.ur_xmltype.specs.declared.sorts.Sort.{Sort as CodeSort}

@@ -1,7 +1,7 @@
 //! The frame of a page.
 ghost use Rattle.std.specs.Prelude.{◌≡◌, [], false, None, OnOk, option_map};
 ghost use Rattle.ur_base.specs.Stopping.{IfRefused};
-ghost use Rattle.ur_type_words.specs.Places as places;
+ghost use Rattle.ur_tree.specs.Places as places;
 ghost use Rattle.ur_xmltype.specs.Literal as literals;
 ghost use Rattle.ur_xmltype.specs.Faults.{IsBadFrame};
 ghost use Rattle.ur_xmltype.specs.Views.{sort_in, framed_in, step_in};

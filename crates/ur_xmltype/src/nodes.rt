@@ -2,7 +2,7 @@
 ghost use Rattle.std.specs.Prelude.{◌≡◌, [], ◌∷◌, Some, None, IfOk, option_map, bytes_eq};
 ghost use Rattle.ur_base.specs.Stopping.{IfRefused};
 ghost use Rattle.ur_rows.specs.Made.{field};
-ghost use Rattle.ur_type_words.specs.Places as places;
+ghost use Rattle.ur_tree.specs.Places as places;
 ghost use Rattle.ur_xmltype.specs.Tags as tags;
 ghost use Rattle.ur_xmltype.specs.Faults.{IsBadTag};
 ghost use Rattle.ur_xmltype.specs.Views.{place_in, node_in, names_in};

@@ -1,6 +1,6 @@
 //! The places of XML.
 ghost use Rattle.std.specs.Prelude.{◌≡◌, option_map};
-ghost use Rattle.ur_type_words.specs.Places as places;
+ghost use Rattle.ur_tree.specs.Places as places;
 ghost use Rattle.ur_xmltype.specs.Views.{place_in};
 ghost use Rattle.ur_xmltype.specs.Faults as faults;
 

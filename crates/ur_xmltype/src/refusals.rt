@@ -7,7 +7,7 @@ ghost use Rattle.ur_xmltype.specs.Views.{place_in};
 use crate::places::{Place, place_text};
 use std::alloc::Global;
 use ur_base::{List, Memory, Refusal, Span, Text};
-use ur_type_words::apart_from;
+use ur_tree::apart_from;
 
 /// A name that stands twice.
 pub fn twice(alloc: Global, span: Span, name: &Text) -> Result<Refusal, Memory>

@@ -3,7 +3,7 @@ ghost use Rattle.std.specs.Prelude.{◌∷◌, [], map, IfOk, OnOk};
 ghost use Rattle.ur_base.specs.Stopping.{IfRefused, Says};
 ghost use Rattle.ur_rows.specs.Apart.{AreApart};
 ghost use Rattle.ur_disjoint.specs.Tests.{pair};
-ghost use Rattle.ur_type_words.specs.Text.{row_text};
+ghost use Rattle.ur_tree.specs.Text.{row_text};
 ghost use Rattle.ur_xmltype.specs.Faults.{IsMeeting};
 
 use std::alloc::Global;
@@ -11,7 +11,7 @@ use std::slice;
 use ur_base::{Memory, Refusal, Span, Stop, Text};
 use ur_disjoint::{Assumed, prove};
 use ur_rows::Part;
-use ur_type_words::row_text;
+use ur_tree::row_text;
 
 fn meeting(
     alloc: Global,

@@ -1,7 +1,7 @@
 //! The sort of a literal.
 ghost use Rattle.std.specs.Prelude.{◌≡◌, ◌||◌, bytes_eq, codes, option_map};
 ghost use Rattle.std.specs.Option.{option_copied};
-ghost use Rattle.ur_type_words.specs.Places as places;
+ghost use Rattle.ur_tree.specs.Places as places;
 ghost use Rattle.ur_xmltype.specs.Tags.{field_of};
 ghost use Rattle.ur_xmltype.specs.Literal as literals;
 ghost use Rattle.ur_xmltype.specs.Views.{place_in, sort_in};

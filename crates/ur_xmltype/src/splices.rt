@@ -1,9 +1,9 @@
 //! Text, and what is spliced.
 ghost use Rattle.std.specs.Prelude.{◌≡◌, not, true, false, if◌then◌else◌, Some, None, codes, IfOk, OnOk};
 ghost use Rattle.ur_base.specs.Stopping.{IfRefused};
-ghost use Rattle.ur_type_words.specs.Places as places;
-ghost use Rattle.ur_type_words.specs.Scalars.{is_basic};
-ghost use Rattle.ur_type_words.specs.Text.{type_text};
+ghost use Rattle.ur_tree.specs.Places as places;
+ghost use Rattle.ur_tree.specs.Scalars.{is_basic};
+ghost use Rattle.ur_tree.specs.Text.{type_text};
 ghost use Rattle.ur_xmltype.specs.Literal as literals;
 ghost use Rattle.ur_xmltype.specs.Faults.{IsMisplaced};
 ghost use Rattle.ur_xmltype.specs.Views.{place_in, asked_in};
@@ -13,7 +13,7 @@ use crate::refusals::misplaced;
 use std::alloc::Global;
 use ur_base::{List, Memory, Refusal, Span, Stop, Text};
 use ur_rows::{NormalType, Part, copy_row};
-use ur_type_words::type_text;
+use ur_tree::type_text;
 
 fn is_blank_byte(byte: u8) -> bool
     ensures { result ≡ literals.is_blank_byte byte }

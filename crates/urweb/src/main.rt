@@ -1,4 +1,4 @@
-//! The program: words, devices, status. All that it does is in `run`.
+//! The program: words, devices, status. All that it does is in a run.
 #![tactic(auto)]
 
 ghost use Rattle.std.specs.Prelude.{◌≡◌, ◌≢◌, true, false};
@@ -6,13 +6,11 @@ ghost use Rattle.std.specs.Prelude.{◌≡◌, ◌≢◌, true, false};
 use std::env;
 use std::io::ErrorKind;
 use std::process::ExitCode;
-use ur_base::{List, Memory};
+use ur_base::{Memory, Text};
 use ur_io::{FileShelf, StdSink, StdWire, Wire};
-use ur_keeper::{Keeper, MemoryKeeper};
-use ur_kept::Kept;
+use ur_io_tcp::TcpWire;
 use ur_sqlkeeper::SqlBodies;
-use ur_tcp::TcpWire;
-use ur_top::{Outcome, run};
+use ur_stores::{run_in_memory, run_over};
 use ur_words::{Command, Wanted, wanted};
 
 /// The status where there is no memory for the words.
@@ -20,7 +18,7 @@ const NO_MEMORY: u8 = 8;
 
 fn main(rt: HostRuntime) -> ExitCode {
     match words_and_wanted(&rt) {
-        Ok((words, wanted)) => ExitCode::from(with_keeper(rt, words.as_slice(), wanted)),
+        Ok((words, wanted)) => ExitCode::from(with_wire(rt, words.as_slice(), wanted)),
         Err(_) => ExitCode::from(NO_MEMORY),
     }
 }
@@ -46,43 +44,20 @@ fn words_given(rt: &HostRuntime) -> Result<Vec<String>, Memory> {
     Ok(words)
 }
 
-/// A run with its tables in the file that is wanted, or in memory.
-fn with_keeper(rt: HostRuntime, words: &[String], wanted: Wanted) -> u8 {
-    let alloc = rt.alloc();
-    let Wanted { command, port, db } = wanted;
-    match db {
-        Some(path) => {
-            let mut keeper = Kept::new(alloc, SqlBodies::in_file(rt, path));
-            with_wire(rt, words, command, port, &mut keeper)
-        }
-        None => {
-            let mut keeper = MemoryKeeper::new(alloc, List::new(alloc));
-            with_wire(rt, words, command, port, &mut keeper)
-        }
-    }
-}
-
 /// A run over the connections that are wanted. A port is listened on before anything is printed; where that fails, the run's own
 /// first call tries again, and tells.
-fn with_wire<K: Keeper>(
-    rt: HostRuntime,
-    words: &[String],
-    command: Command,
-    port: u16,
-    keeper: &mut K,
-) -> u8
-    requires { K.under_way keeper.old ≡ false }
-{
+fn with_wire(rt: HostRuntime, words: &[String], wanted: Wanted) -> u8 {
+    let Wanted { command, port, db } = wanted;
     let out = sink(rt, command);
     match command {
         Command::Serve => {
             let mut wire = TcpWire::new(rt, port);
             let _ = wire.listen();
-            with_sink(rt, words, out, &mut wire, keeper)
+            with_tables(rt, words, db, out, &mut wire)
         }
         _ => {
             let mut wire = StdWire::new(rt);
-            with_sink(rt, words, out, &mut wire, keeper)
+            with_tables(rt, words, db, out, &mut wire)
         }
     }
 }
@@ -98,19 +73,25 @@ fn sink(rt: HostRuntime, command: Command) -> StdSink
     }
 }
 
-fn with_sink<W: Wire, K: Keeper>(
+/// A run with its tables in the file that is wanted, or in memory.
+fn with_tables<W: Wire>(
     rt: HostRuntime,
     words: &[String],
+    db: Option<Text>,
     mut out: StdSink,
     wire: &mut W,
-    keeper: &mut K,
-) -> u8
-    requires { K.under_way keeper.old ≡ false }
-{
+) -> u8 {
+    let alloc = rt.alloc();
     let mut shelf = FileShelf::new(rt);
-    let Outcome {
-        status,
-        sessions: _,
-    } = run(rt.alloc(), words, &mut shelf, wire, keeper, &mut out);
-    status
+    match db {
+        Some(path) => {
+            let bodies = SqlBodies::in_file(rt, path);
+            let (outcome, _keeper) = run_over(alloc, words, &mut shelf, wire, bodies, &mut out);
+            outcome.status
+        }
+        None => {
+            let (outcome, _keeper) = run_in_memory(alloc, words, &mut shelf, wire, &mut out);
+            outcome.status
+        }
+    }
 }

@@ -1,16 +1,16 @@
 use Rattle.std.specs.List.{AllByRecursion}
 use Rattle.std.proofs.Common.{refl, arith, sym, ◌∙◌, ◌+◌, ◌-◌, ◌*◌, ◌≡◌, true, false, drop, length, subst}
 use Rattle.std.proofs.lemmas.List.{nil_from_length}
-use Rattle.ur_grammar.specs.Rules.{nested}
-use Rattle.ur_grammar.specs.Places.{Moves}
-use Rattle.ur_grammar.proofs.Steps.{passed, made, made_deep, at_limit}
+use Rattle.ur_parse_rules.specs.Rules.{nested}
+use Rattle.ur_parse_rules.specs.Places.{Moves}
+use Rattle.ur_parse_rules.proofs.Steps.{passed, made, made_deep, at_limit}
 use Rattle.ur_parse_rules.proofs.Places.{mark_moves, name_moves, moves_on, contradicted}
-use Rattle.ur_parse_pat.proofs.Binders.{stays_on}
+use Rattle.ur_parse_con.proofs.Binders.{stays_on}
 use Rattle.ur_parse_exp_parts.specs.Begins.{NoneOpens}
 use Rattle.ur_parse_exp_parts.specs.Lines.{ended}
 use Rattle.ur_parse_exp_parts.proofs.Levels.{group_first, group_more, group_refused, group_done, level_ends, sign_begins, right_refused, right_read}
 use Rattle.ur_parse_exp_parts.proofs.Levels as levels
-use Rattle.ur_parse_exp_forms.proofs.Shaping.{shape_stands}
+use Rattle.ur_parse_exp_parts.proofs.Shaping.{shape_stands}
 use Rattle.ur_parse_exp.specs.Codes.{holds, nests, CodesRead, IsKnown, NoneRead}
 use Rattle.ur_parse_exp.specs.Lists.{first}
 use Rattle.ur_parse_exp.proofs.Ranks.{lower}

@@ -1,13 +1,13 @@
 use Rattle.std.proofs.Common.{◌+◌, ◌-◌, ◌*◌, ◌≤◌, length, drop, ◌++◌}
-use Rattle.ur_grammar.specs.Rules.{Read, Stops}
-use Rattle.ur_grammar.specs.Places.{Moves}
-use Rattle.ur_grammar.proofs.Steps.{Leads}
+use Rattle.ur_parse_rules.specs.Rules.{Read, Stops}
+use Rattle.ur_parse_rules.specs.Places.{Moves}
+use Rattle.ur_parse_rules.proofs.Steps.{Leads}
 use Rattle.ur_parse_rules.specs.Classes.{member}
 use Rattle.ur_parse_rules.specs.Ends.{operand_more}
 use Rattle.ur_parse_rules.specs.ExpParts as e
 use Rattle.ur_parse_rules.specs.Parts.{of_exp}
 use Rattle.ur_parse_rules.specs.Language.{language}
-use Rattle.ur_parse_parts.specs.Operators.{level_of}
+use Rattle.ur_parse_con.specs.Operators.{level_of}
 use Rattle.ur_parse_exp_parts.proofs.Levels.{Grouped}
 use Rattle.ur_parse_exp.proofs.Ranks.{rank}
 use Rattle.ur_parse_exp.proofs.Consing.{ConsChain}

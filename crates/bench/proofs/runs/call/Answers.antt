@@ -1,6 +1,6 @@
 use Rattle.std.proofs.Common.{[], sym, ap, ◌∙◌}
 use Rattle.ur_terms.specs.Run.{outcome_of}
-use Rattle.ur_frames.specs.Plays.{until, held, no_store}
+use Rattle.ur_machine_frames.specs.Plays.{until, held, no_store}
 use Rattle.bench.proofs.runs.call.Goals as goal
 
 pub run_call-pause-requires : goal.run_call-pause-requires

@@ -1,9 +1,9 @@
 use Rattle.std.proofs.Common.{refl}
-use Rattle.ur_scopes.proofs.Exits.{refused-exit}
-use Rattle.ur_rules.specs.Views.{sites_in}
+use Rattle.ur_check_scopes.proofs.Exits.{refused-exit}
+use Rattle.ur_check_rules.specs.Views.{sites_in}
 use Rattle.ur_typed.specs.Project.{env_at}
 use Rattle.ur_typed.specs.Declaring.{world_behind, body_scope}
-use Rattle.ur_heads.proofs.Entering.{prepared-seen}
+use Rattle.ur_check_heads.proofs.Entering.{prepared-seen}
 use Rattle.ur_check.proofs.Bodying.{wanted, wanted-fault}
 use Rattle.ur_check.proofs.bodies.body.Goals as goal
 

@@ -1,6 +1,6 @@
 use Rattle.std.proofs.Common.{refl, drop, ◌+◌, drop_of_length-le}
-use Rattle.ur_scopes.proofs.Exits.{refused-exit}
-use Rattle.ur_scopes.proofs.Loops.{drop-here, drop-none}
+use Rattle.ur_check_scopes.proofs.Exits.{refused-exit}
+use Rattle.ur_check_scopes.proofs.Loops.{drop-here, drop-none}
 use Rattle.ur_check.proofs.Grouping.{has-heading, group-start, group-past, group-broken, group-end}
 use Rattle.ur_check.proofs.bodies.group_bodies.Goals as goal
 

@@ -1,8 +1,8 @@
 use Rattle.std.proofs.Common.{sym, ap, ◌∙◌}
 use Rattle.ur_tree.specs.IsStatic.{is_static}
-use Rattle.ur_scopes.proofs.Exits.{refused-exit}
-use Rattle.ur_rules.specs.Views.{sites_in}
-use Rattle.ur_type_conditions.specs.Scopes.{wants}
+use Rattle.ur_check_scopes.proofs.Exits.{refused-exit}
+use Rattle.ur_check_rules.specs.Views.{sites_in}
+use Rattle.ur_typed_rules.specs.Scopes.{wants}
 use Rattle.ur_typed.specs.Declaring.{world_behind, top_scope}
 use Rattle.ur_check.specs.Views.{has_fault}
 use Rattle.ur_check.proofs.Bodying.{named-fault, moves-told}

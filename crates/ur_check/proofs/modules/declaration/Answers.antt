@@ -1,5 +1,5 @@
 use Rattle.std.proofs.Common.{sym, subst}
-use Rattle.ur_scopes.proofs.Exits.{ok-along, refused-along}
+use Rattle.ur_check_scopes.proofs.Exits.{ok-along, refused-along}
 use Rattle.ur_typed.specs.Typed.{HasNoBody}
 use Rattle.ur_typed.specs.Typed as typed
 use Rattle.ur_check.specs.Views.{Declares, DeclHasFault}

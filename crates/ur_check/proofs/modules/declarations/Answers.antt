@@ -1,6 +1,6 @@
 use Rattle.std.proofs.Common.{drop, ◌+◌, drop_of_length-le}
-use Rattle.ur_scopes.proofs.Exits.{refused-exit}
-use Rattle.ur_scopes.proofs.Loops.{drop-here, drop-none}
+use Rattle.ur_check_scopes.proofs.Exits.{refused-exit}
+use Rattle.ur_check_scopes.proofs.Loops.{drop-here, drop-none}
 use Rattle.ur_check.proofs.Declaring.{declared-start, declared-some, declared-past, declared-broken, declared-end}
 use Rattle.ur_check.proofs.modules.declarations.Goals as goal
 

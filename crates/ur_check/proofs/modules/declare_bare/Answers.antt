@@ -1,4 +1,4 @@
-use Rattle.ur_scopes.proofs.Exits.{refused-exit}
+use Rattle.ur_check_scopes.proofs.Exits.{refused-exit}
 use Rattle.ur_check.proofs.Declaring.{head-fault, bare-declared}
 use Rattle.ur_check.proofs.modules.declare_bare.Goals as goal
 

@@ -1,5 +1,5 @@
 use Rattle.std.proofs.Common.{refl}
-use Rattle.ur_scopes.proofs.Exits.{refused-exit}
+use Rattle.ur_check_scopes.proofs.Exits.{refused-exit}
 use Rattle.ur_check.proofs.Declaring.{head-fault, group-headed, group-declared, group-fault}
 use Rattle.ur_check.proofs.modules.declare_group.Goals as goal
 

@@ -1,4 +1,4 @@
-use Rattle.ur_scopes.proofs.Exits.{refused-exit}
+use Rattle.ur_check_scopes.proofs.Exits.{refused-exit}
 use Rattle.ur_check.proofs.Declaring.{val-head-fault, val-fault, val-declared}
 use Rattle.ur_check.proofs.modules.declare_val.Goals as goal
 

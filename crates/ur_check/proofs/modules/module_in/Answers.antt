@@ -1,4 +1,4 @@
-use Rattle.ur_scopes.proofs.Exits.{refused-exit}
+use Rattle.ur_check_scopes.proofs.Exits.{refused-exit}
 use Rattle.ur_check.proofs.Declaring.{enters-some, module-added, module-fault}
 use Rattle.ur_check.proofs.modules.module_in.Goals as goal
 

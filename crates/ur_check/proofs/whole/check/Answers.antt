@@ -1,5 +1,5 @@
 use Rattle.std.specs.Option.{option_copied}
-use Rattle.ur_scopes.proofs.Exits.{refused-exit}
+use Rattle.ur_check_scopes.proofs.Exits.{refused-exit}
 use Rattle.ur_check.specs.Refused.{by_kind, by_type}
 use Rattle.ur_check.proofs.Ending.{checked, is-source, named-cause}
 use Rattle.ur_check.proofs.whole.check.Goals as goal

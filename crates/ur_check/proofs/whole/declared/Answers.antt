@@ -1,5 +1,5 @@
 use Rattle.ur_typed.specs.DeclFaults.{in_modules}
-use Rattle.ur_scopes.proofs.Exits.{refused-exit}
+use Rattle.ur_check_scopes.proofs.Exits.{refused-exit}
 use Rattle.std.specs.Option.{option_copied}
 use Rattle.ur_check.proofs.Ending.{signed-fault}
 use Rattle.ur_check.proofs.whole.declared.Goals as goal

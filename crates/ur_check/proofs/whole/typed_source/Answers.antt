@@ -1,5 +1,5 @@
 use Rattle.std.proofs.Common.{sym, subst}
-use Rattle.ur_scopes.proofs.Exits.{refused-exit}
+use Rattle.ur_check_scopes.proofs.Exits.{refused-exit}
 use Rattle.std.specs.Option.{option_copied}
 use Rattle.ur_check.specs.Views.{EntersAll}
 use Rattle.ur_check.proofs.Ending.{resolves, begun-fault}

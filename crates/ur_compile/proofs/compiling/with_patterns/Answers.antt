@@ -1,8 +1,8 @@
 -- The patterns are those of the code that is verified.
 use Rattle.std.proofs.Common.{subst}
 use Rattle.ur_code.specs.declared.code.Code.{Code}
-use Rattle.ur_patterns.specs.Patterns.{AreAllPatterns}
-use Rattle.ur_patterns.specs.Law.{IsSoundInvalidation, ReadArguments}
+use Rattle.ur_conditions.specs.Patterns.{AreAllPatterns}
+use Rattle.ur_conditions.specs.Law.{IsSoundInvalidation, ReadArguments}
 use Rattle.ur_compile.proofs.compiling.with_patterns.Goals as goal
 
 pub returns-clause-patterns : goal.returns-clause-patterns

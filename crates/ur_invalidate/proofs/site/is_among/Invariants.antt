@@ -1,6 +1,6 @@
 use Rattle.std.proofs.Common.{◌≡◌, drop}
 use Rattle.std.specs.List.{list_any}
-use Rattle.ur_patterns.specs.Patterns.{pattern_eq}
+use Rattle.ur_conditions.specs.Patterns.{pattern_eq}
 use Rattle.ur_invalidate.proofs.site.is_among.Given as goal
 
 abbrev pub invariant-loop-other : goal.invariant-loop-other

@@ -1,6 +1,6 @@
 use Rattle.std.proofs.Common.{Bool, cond, [], ◌∷◌, ◌++◌, ap, sym, ◌∙◌}
 use Rattle.std.specs.List.{list_any}
-use Rattle.ur_patterns.specs.Patterns.{pattern_eq}
+use Rattle.ur_conditions.specs.Patterns.{pattern_eq}
 use Rattle.ur_invalidate.proofs.FirstOnes.{kept_more}
 use Rattle.ur_invalidate.proofs.site.keep_new.Goals as goal
 

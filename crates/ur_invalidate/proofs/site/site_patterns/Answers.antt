@@ -1,6 +1,6 @@
 use Rattle.std.proofs.Common.{All}
 use Rattle.ur_conditions.specs.Pairs.{pairs_of, AreAtoms}
-use Rattle.ur_patterns.specs.Patterns.{ArePatterns}
+use Rattle.ur_conditions.specs.Patterns.{ArePatterns}
 use Rattle.ur_invalidate.proofs.Sites.{at_place, numbered_zip}
 use Rattle.ur_invalidate.proofs.site.site_patterns.Goals as goal
 

@@ -2,7 +2,7 @@ use Rattle.std.proofs.Common.{List, All, sym, subst}
 use Rattle.ur_sql.specs.declared.query.Query.{Query}
 use Rattle.ur_sql.specs.declared.change.Change.{Change}
 use Rattle.ur_sql.specs.Typing.{QueryFits, ChangeFits}
-use Rattle.ur_patterns.specs.declared.patterns.Patterns.{Patterns}
+use Rattle.ur_conditions.specs.declared.patterns.Patterns.{Patterns}
 use Rattle.ur_invalidate.specs.Reading.{AreSitePatterns}
 use Rattle.ur_invalidate.proofs.Sites.{at_place, zip_more}
 use Rattle.ur_invalidate.proofs.Typed.{typed_atoms, all_patterns}

@@ -1,4 +1,4 @@
-use Rattle.ur_project.proofs.Named.{name_is_text}
+use Rattle.ur_load.proofs.Named.{name_is_text}
 use Rattle.ur_load.proofs.loading.module_text.Goals as goal
 
 pub unreachable-requires : goal.unreachable-requires

@@ -1,8 +1,8 @@
 use Rattle.std.proofs.Common.{refl, arith, sym, ◌∙◌, ◌+◌, ◌-◌, ◌≡◌, ◌≤◌, true, false, [], ◌∷◌, ◌++◌, drop}
 use Rattle.ur_syntax.specs.declared.con.Con.{Con}
-use Rattle.ur_grammar.specs.Rules.{nested, Read, Refused}
-use Rattle.ur_grammar.specs.Places.{Moves, span_of}
-use Rattle.ur_grammar.proofs.Steps.{passed, made_deep, at_limit}
+use Rattle.ur_parse_rules.specs.Rules.{nested, Read, Refused}
+use Rattle.ur_parse_rules.specs.Places.{Moves, span_of}
+use Rattle.ur_parse_rules.proofs.Steps.{passed, made_deep, at_limit}
 use Rattle.ur_parse_rules.specs.ConParts.{con, arrow, concat, app, atom}
 use Rattle.ur_parse_rules.specs.Constructors.{keys_of, within}
 use Rattle.ur_parse_rules.specs.Parts.{of_con}

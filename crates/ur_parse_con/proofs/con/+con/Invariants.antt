@@ -1,7 +1,7 @@
 use Rattle.std.proofs.Common.{◌+◌, ◌-◌, ◌*◌, ◌≤◌, ◌<◌, ℕ, length, drop, ◌++◌}
 use Rattle.ur_lex.specs.declared.token.Lexeme.{Lexeme}
-use Rattle.ur_grammar.specs.Places.{Moves}
-use Rattle.ur_grammar.proofs.Steps.{Leads}
+use Rattle.ur_parse_rules.specs.Places.{Moves}
+use Rattle.ur_parse_rules.proofs.Steps.{Leads}
 use Rattle.ur_parse_rules.specs.ConParts.{row, row_tail, fields, fields_tail}
 use Rattle.ur_parse_rules.specs.Parts.{of_con}
 use Rattle.ur_parse_rules.specs.Language.{language}

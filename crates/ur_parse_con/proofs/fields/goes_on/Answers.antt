@@ -1,6 +1,6 @@
 use Rattle.std.proofs.Common.{◌≡◌, ◌∙◌, sym, refl}
 use Rattle.std.specs.Prelude.{false}
-use Rattle.ur_grammar.proofs.Choices.{starts_at}
+use Rattle.ur_parse_rules.proofs.Choices.{starts_at}
 use Rattle.ur_parse_rules.specs.Classes.{member}
 use Rattle.ur_parse_rules.specs.Ends.{con_more}
 use Rattle.ur_parse_rules.proofs.Places.{missing}

@@ -1,9 +1,9 @@
 use Rattle.std.proofs.Common.{refl, arith, ◌+◌}
-use Rattle.ur_grammar.specs.Rules.{no_span, syntax}
+use Rattle.ur_parse_rules.specs.Rules.{no_span, syntax}
 use Rattle.ur_parse_rules.specs.ConParts.{kind_atom}
 use Rattle.ur_parse_rules.specs.Parts.{of_con}
-use Rattle.ur_grammar.proofs.Steps.{nothing, a_mark, a_word, an_one, mark_read, word_read, one_read, one_refused, no_mark, no_word, not_mark, not_word, reads_by, refused_by, none_of, passed, made}
-use Rattle.ur_grammar.proofs.Choices.{chosen_mark_at}
+use Rattle.ur_parse_rules.proofs.Steps.{nothing, a_mark, a_word, an_one, mark_read, word_read, one_read, one_refused, no_mark, no_word, not_mark, not_word, reads_by, refused_by, none_of, passed, made}
+use Rattle.ur_parse_rules.proofs.Choices.{chosen_mark_at}
 use Rattle.ur_parse_rules.proofs.Choice.{choice}
 use Rattle.ur_parse_rules.proofs.AllDecided.{decided}
 use Rattle.ur_parse_rules.proofs.Places.{ends_empty}

@@ -1,5 +1,5 @@
 use Rattle.std.proofs.Common.{ℕ, ◌+◌, ◌-◌, ◌*◌, ◌≤◌, length}
-use Rattle.ur_grammar.specs.Places.{Moves}
+use Rattle.ur_parse_rules.specs.Places.{Moves}
 use Rattle.ur_parse_con.proofs.Chains.{Chain}
 use Rattle.ur_parse_con.proofs.kind.+kinds.Given as goal
 

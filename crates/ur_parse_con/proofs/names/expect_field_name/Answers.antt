@@ -1,5 +1,5 @@
 use Rattle.std.proofs.Common.{refl}
-use Rattle.ur_grammar.proofs.Steps.{passed}
+use Rattle.ur_parse_rules.proofs.Steps.{passed}
 use Rattle.ur_parse_rules.proofs.Places.{name_moves}
 use Rattle.ur_parse_con.proofs.Atoms.{field_variable, field_literal, field_variable_refused, no_field_name}
 use Rattle.ur_parse_con.proofs.names.expect_field_name.Goals as goal

@@ -1,5 +1,5 @@
 use Rattle.std.proofs.Common.{refl, arith, sym, ◌∙◌, ◌+◌, ◌≡◌}
-use Rattle.ur_grammar.proofs.Steps.{passed}
+use Rattle.ur_parse_rules.proofs.Steps.{passed}
 use Rattle.ur_parse_rules.proofs.Places.{name_moves, mark_moves, moves_on}
 use Rattle.ur_parse_con.proofs.Atoms.{variable_read, variable_refused, name_of_read, name_of_refused, member_read, member_dot, member_name, none_named}
 use Rattle.ur_parse_con.proofs.names.named.Goals as goal

@@ -1,5 +1,5 @@
 use Rattle.std.proofs.Common.{◌≡◌, ◌∙◌, sym, refl}
-use Rattle.ur_grammar.proofs.Tokens.{starts_at, content_at}
+use Rattle.ur_parse_rules.proofs.Tokens.{starts_at, content_at}
 use Rattle.ur_parse_rules.specs.Classes.{member}
 use Rattle.ur_parse_rules.specs.Ends.{con_args}
 use Rattle.ur_parse_con.proofs.Naming.{begins_is}

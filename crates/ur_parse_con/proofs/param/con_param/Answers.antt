@@ -1,4 +1,4 @@
-use Rattle.ur_grammar.proofs.Steps.{passed}
+use Rattle.ur_parse_rules.proofs.Steps.{passed}
 use Rattle.ur_parse_con.proofs.Params.{kinded_chosen, plain_chosen, param_missing, kinded_refused, kinded_open, kinded_read, left_refused, tilde_missing, right_refused, disjoint_open, disjoint_read}
 use Rattle.ur_parse_con.proofs.param.con_param.Goals as goal
 

@@ -1,4 +1,4 @@
-use Rattle.ur_grammar.proofs.Tokens.{no_passing}
+use Rattle.ur_parse_rules.proofs.Tokens.{no_passing}
 use Rattle.ur_lex.specs.declared.token.TokenKind.TheVariants as token
 use Rattle.ur_parse_rules.specs.Words.{is_free}
 use Rattle.ur_parse_rules.proofs.Places.{passing}

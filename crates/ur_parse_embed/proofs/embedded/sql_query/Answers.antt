@@ -1,5 +1,5 @@
-use Rattle.ur_grammar.specs.Rules.{Read}
-use Rattle.ur_grammar.proofs.Once.{read_once}
+use Rattle.ur_parse_rules.specs.Rules.{Read}
+use Rattle.ur_parse_rules.proofs.Once.{read_once}
 use Rattle.ur_parse_rules.specs.Quoted.{raw}
 use Rattle.ur_parse_rules.specs.SqlParts.{query}
 use Rattle.ur_parse_rules.specs.Parts.{of_sql}

@@ -1,4 +1,4 @@
-use Rattle.ur_grammar.proofs.Steps.{passed}
+use Rattle.ur_parse_rules.proofs.Steps.{passed}
 use Rattle.ur_parse_rules.proofs.Places.{mark_moves, moves_on}
 use Rattle.ur_parse_exp.proofs.Posts.{arg_nil_refused, arg_nil_read, arg_con_refused, arg_con_open, arg_con_dotted, arg_con_read}
 use Rattle.ur_parse_exp.proofs.atom.bracketed.Goals as goal

@@ -1,5 +1,5 @@
 use Rattle.std.proofs.Common.{refl, inl, inr}
-use Rattle.ur_grammar.proofs.Steps.{made}
+use Rattle.ur_parse_rules.proofs.Steps.{made}
 use Rattle.ur_parse_rules.proofs.Places.{mark_moves}
 use Rattle.ur_parse_exp.proofs.Branches.{no_bar, one_bar, two_bars}
 use Rattle.ur_parse_exp.proofs.line.past_bar.Goals as goal

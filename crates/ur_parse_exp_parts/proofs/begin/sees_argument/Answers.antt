@@ -1,5 +1,5 @@
 use Rattle.std.proofs.Common.{◌∙◌, sym, refl}
-use Rattle.ur_grammar.proofs.Tokens.{starts_at}
+use Rattle.ur_parse_rules.proofs.Tokens.{starts_at}
 use Rattle.ur_parse_rules.specs.Classes.{member}
 use Rattle.ur_parse_rules.specs.Ends.{exp_args}
 use Rattle.ur_parse_exp_parts.proofs.Beginning.{begins_is}

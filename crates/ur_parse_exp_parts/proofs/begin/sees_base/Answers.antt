@@ -1,5 +1,5 @@
 use Rattle.std.proofs.Common.{refl}
-use Rattle.ur_grammar.proofs.Tokens.{starts_at, content_at}
+use Rattle.ur_parse_rules.proofs.Tokens.{starts_at, content_at}
 use Rattle.ur_parse_exp_parts.specs.Begins.{begins_base}
 use Rattle.ur_parse_exp_parts.proofs.begin.sees_base.Goals as goal
 

@@ -1,4 +1,4 @@
-use Rattle.ur_grammar.proofs.Steps.{passed}
+use Rattle.ur_parse_rules.proofs.Steps.{passed}
 use Rattle.ur_parse_exp_parts.proofs.Bindings.{arrow_missing, no_variable, no_arrow}
 use Rattle.ur_parse_exp_parts.proofs.bound.binding.Goals as goal
 

@@ -1,4 +1,4 @@
-use Rattle.ur_grammar.proofs.Steps.{passed}
+use Rattle.ur_parse_rules.proofs.Steps.{passed}
 use Rattle.ur_parse_exp_parts.proofs.Members.{capital_alone, no_lower, no_member, lower_refused, upper_refused, lower_read, upper_read}
 use Rattle.ur_parse_exp_parts.proofs.capital.read_capital.Goals as goal
 

@@ -1,4 +1,4 @@
-use Rattle.ur_grammar.proofs.Steps.{passed}
+use Rattle.ur_parse_rules.proofs.Steps.{passed}
 use Rattle.ur_parse_exp_parts.proofs.Members.{nil_read}
 use Rattle.ur_parse_exp_parts.proofs.capital.read_nil.Goals as goal
 

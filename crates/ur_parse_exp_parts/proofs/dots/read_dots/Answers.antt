@@ -1,4 +1,4 @@
-use Rattle.ur_grammar.proofs.Steps.{passed}
+use Rattle.ur_parse_rules.proofs.Steps.{passed}
 use Rattle.ur_parse_rules.proofs.Places.{mark_moves, moves_on}
 use Rattle.ur_parse_exp_parts.proofs.Dotted.{dots_first, dots_more, dots_refused, dots_done}
 use Rattle.ur_parse_exp_parts.proofs.dots.read_dots.Goals as goal

@@ -1,5 +1,5 @@
 use Rattle.std.proofs.Common.{◌-◌, length}
-use Rattle.ur_grammar.specs.Places.{Moves}
+use Rattle.ur_parse_rules.specs.Places.{Moves}
 use Rattle.ur_parse_exp_parts.proofs.Dotted.{Dotted}
 use Rattle.ur_parse_exp_parts.proofs.dots.read_dots.Given as goal
 

@@ -1,5 +1,5 @@
 use Rattle.std.proofs.Common.{◌∙◌, sym}
-use Rattle.ur_grammar.proofs.Steps.{passed, made}
+use Rattle.ur_parse_rules.proofs.Steps.{passed, made}
 use Rattle.ur_parse_rules.proofs.Places.{mark_moves, moves_on}
 use Rattle.ur_parse_exp_parts.proofs.Levels.{gone_refused, gone_followed, gone_read}
 use Rattle.ur_parse_exp_parts.proofs.gone.read_gone.Goals as goal

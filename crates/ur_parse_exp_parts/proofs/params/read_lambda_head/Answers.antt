@@ -1,4 +1,4 @@
-use Rattle.ur_grammar.proofs.Steps.{passed}
+use Rattle.ur_parse_rules.proofs.Steps.{passed}
 use Rattle.ur_parse_exp_parts.proofs.Heads.{fn_missing, head_params, head_arrow}
 use Rattle.ur_parse_exp_parts.proofs.params.read_lambda_head.Goals as goal
 

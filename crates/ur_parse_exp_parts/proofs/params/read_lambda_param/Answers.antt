@@ -1,4 +1,4 @@
-use Rattle.ur_grammar.proofs.Steps.{passed}
+use Rattle.ur_parse_rules.proofs.Steps.{passed}
 use Rattle.ur_parse_exp_parts.proofs.Heads.{typed_refused, typed_read, con_refused, con_read, bare_refused, bare_read}
 use Rattle.ur_parse_exp_parts.proofs.params.read_lambda_param.Goals as goal
 

@@ -1,5 +1,5 @@
 use Rattle.std.proofs.Common.{◌∙◌, sym}
-use Rattle.ur_grammar.proofs.Steps.{passed}
+use Rattle.ur_parse_rules.proofs.Steps.{passed}
 use Rattle.ur_parse_rules.proofs.Places.{moves_on}
 use Rattle.ur_parse_exp_parts.specs.Heads.{first}
 use Rattle.ur_parse_exp_parts.proofs.Heads.{params_first, params_more, params_refused, params_done}

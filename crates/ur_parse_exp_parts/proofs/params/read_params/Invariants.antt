@@ -1,5 +1,5 @@
 use Rattle.std.proofs.Common.{◌-◌, length}
-use Rattle.ur_grammar.specs.Places.{Moves}
+use Rattle.ur_parse_rules.specs.Places.{Moves}
 use Rattle.ur_parse_exp_parts.proofs.Heads.{Params}
 use Rattle.ur_parse_exp_parts.proofs.params.read_params.Given as goal
 

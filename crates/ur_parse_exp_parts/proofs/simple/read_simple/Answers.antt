@@ -1,4 +1,4 @@
-use Rattle.ur_grammar.proofs.Steps.{passed}
+use Rattle.ur_parse_rules.proofs.Steps.{passed}
 use Rattle.ur_parse_rules.proofs.Places.{mark_moves, name_moves}
 use Rattle.ur_parse_exp_parts.proofs.Simples.{int_read, string_read, variable_read, no_string, no_atom}
 use Rattle.ur_parse_exp_parts.proofs.simple.read_simple.Goals as goal

@@ -1,4 +1,4 @@
-use Rattle.ur_grammar.proofs.Tokens.{no_passing}
+use Rattle.ur_parse_rules.proofs.Tokens.{no_passing}
 use Rattle.ur_parse_rules.specs.Words.{is_name}
 use Rattle.ur_parse_rules.proofs.Places.{passing}
 use Rattle.ur_parse_exp_parts.proofs.word.sees_word_of.Goals as goal

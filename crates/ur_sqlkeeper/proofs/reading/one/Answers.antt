@@ -2,7 +2,7 @@ use Rattle.std.proofs.Common.{◌≡◌, map, ap, ◌∙◌, subst, w64}
 use Rattle.std.specs.Int.{cast_signed as to_z, cast_unsigned as of_z}
 use Rattle.std.proofs.lemmas.Int.{to_z-of_z}
 use Rattle.sqlite.specs.Held.{state}
-use Rattle.ur_bodies.specs.Bodies.{Place}
+use Rattle.ur_keeper_bodies.specs.Bodies.{Place}
 use Rattle.ur_sqlkeeper.specs.Entries.{body_in}
 use Rattle.ur_sqlkeeper.specs.Rows.{ShowsPlace}
 use Rattle.ur_sqlkeeper.proofs.Queries.{place-read}

@@ -1,6 +1,6 @@
 use Rattle.std.proofs.Common.{◌≡◌, IsTrue, refl, sym, ap, subst, rules}
 use Rattle.sqlite.specs.Held.{Held, state}
-use Rattle.ur_bodies.specs.Bodies.{CanWrite, written}
+use Rattle.ur_keeper_bodies.specs.Bodies.{CanWrite, written}
 use Rattle.ur_sqlkeeper.specs.Rows.{map_in}
 use Rattle.ur_sqlkeeper.specs.Serving.{IsOurs, IsStill}
 use Rattle.ur_sqlkeeper.proofs.Calls.{not-committed, if-err}

@@ -1,6 +1,6 @@
 use Rattle.std.proofs.Common.{◌≡◌, true, IsTrue, drop}
 use Rattle.sqlite.specs.Held.{state}
-use Rattle.ur_bodies.specs.Bodies.{CanWrite}
+use Rattle.ur_keeper_bodies.specs.Bodies.{CanWrite}
 use Rattle.ur_sqlkeeper.specs.Rows.{map_in}
 use Rattle.ur_sqlkeeper.specs.Serving.{IsOurs}
 use Rattle.ur_sqlkeeper.proofs.Calls.{Goes}

@@ -1,5 +1,5 @@
 use Rattle.std.proofs.Common.{◌≡◌, drop}
-use Rattle.ur_sqltable.specs.Lists.{behind, all_of}
+use Rattle.ur_sqltype.specs.Lists.{behind, all_of}
 use Rattle.ur_sqltype.specs.Antiquotes.{found_kind}
 use Rattle.ur_sqltype.proofs.antiquotes.kinds_found.Given as goal
 

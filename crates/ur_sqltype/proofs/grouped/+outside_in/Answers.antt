@@ -1,5 +1,5 @@
 use Rattle.ur_sql.specs.declared.scalar.Scalar.TheVariants as s
-use Rattle.ur_sqltype.proofs.Equations.{outside_in-Or, outside_in-And, outside_in-Compare, outside_in-Add, outside_in-Sub, outside_in-Mul, of_two}
+use Rattle.ur_sqltype.proofs.SqltypeEquations.{outside_in-Or, outside_in-And, outside_in-Compare, outside_in-Add, outside_in-Sub, outside_in-Mul, of_two}
 use Rattle.ur_sqltype.proofs.grouped.+outside_in.Goals as goal
 
 pub returns-in-Or : goal.returns-in-Or

@@ -1,4 +1,4 @@
-use Rattle.ur_sqltable.proofs.Exits.{refused-exit}
+use Rattle.ur_sqltype.proofs.Exits.{refused-exit}
 use Rattle.ur_sqltype.proofs.parts.condition_of.Goals as goal
 
 pub returns-in_err-scalar-in-Some-clause-refused : goal.returns-in_err-scalar-in-Some-clause-refused

@@ -1,6 +1,6 @@
 use Rattle.std.proofs.Common.{◌∙◌, sym, ap}
 use Rattle.ur_rows.specs.Made.{record_of}
-use Rattle.ur_type_words.specs.QueryRow.{kind_if_any}
+use Rattle.ur_tree.specs.QueryRow.{kind_if_any}
 use Rattle.ur_sqltype.proofs.row.kind_if_any.Goals as goal
 
 pub returns-in-None : goal.returns-in-None

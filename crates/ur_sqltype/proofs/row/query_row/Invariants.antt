@@ -1,6 +1,6 @@
 use Rattle.std.proofs.Common.{◌≡◌, ◌≤◌, drop, length}
 use Rattle.ur_sql.specs.Typing.{kinds_in}
-use Rattle.ur_type_words.specs.QueryRow.{fields_row}
+use Rattle.ur_tree.specs.QueryRow.{fields_row}
 use Rattle.ur_sqltype.proofs.row.query_row.Given as goal
 
 abbrev pub invariant-loop-i : goal.invariant-loop-i

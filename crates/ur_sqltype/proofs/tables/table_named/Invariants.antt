@@ -1,5 +1,5 @@
 use Rattle.std.proofs.Common.{◌≡◌, drop}
-use Rattle.ur_sqlexp.specs.Scope.{named_from}
+use Rattle.ur_sqltype.specs.Scope.{named_from}
 use Rattle.ur_sqltype.proofs.tables.table_named.Given as goal
 
 abbrev pub invariant-loop-i : goal.invariant-loop-i

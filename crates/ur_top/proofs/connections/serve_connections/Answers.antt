@@ -5,13 +5,13 @@ use Rattle.ur_io.specs.Calls.{count_after}
 use Rattle.ur_io.specs.declared.session.SessionEnd.{SessionEnd}
 use Rattle.ur_serve.specs.Responding.{served_by, holding_of}
 use Rattle.ur_serve.specs.Serving.{IsReadyWithin}
-use Rattle.ur_serve.proofs.Sessions.{ready_at_start}
+use Rattle.ur_serve.proofs.ServeSessions.{ready_at_start}
 use Rattle.ur_headline.specs.Counting.{keeper_fault, keeper_faults, wire_faults, marks_of}
 use Rattle.ur_headline.proofs.Counting.{sum_last, rose_none}
-use Rattle.ur_top.proofs.Goings.{SoFar, Comes, begun, goes_on, unmoved, stays, has_served_as, none_came, one_came, serves_on, serves_all, serves_out, counted_last, ends_as, rose_last, marks_on, marks_less, short_last, none_short, no_requests, few_requests, ready_fewer, not_none}
+use Rattle.ur_top.proofs.Goings.{SoFar, Comes, begun, goes_on, unmoved, stays, has_served_as, none_came, one_came, serves_on, serves_all, serves_out, counted_last, ends_as, rose_last, marks_on, marks_less, short_last, none_short, no_requests, few_requests, ready_fewer, not_none, over_wants, not_done}
 use Rattle.ur_top.specs.Serving.{HasNext, HasFewRequests}
 use Rattle.ur_top.specs.declared.reporting.RunEnd.TheVariants as end
-use Rattle.ur_top.specs.declared.serving.Served.{Served}
+use Rattle.ur_top.specs.declared.serving.EndedServing.{EndedServing}
 use Rattle.ur_top.proofs.connections.serve_connections.Goals as goal
 
 pub returns-in_default-clause-served : goal.returns-in_default-clause-served
@@ -30,10 +30,10 @@ returns-in_default-new-clause-served g c =
     (begun c.args.server told saved reads c.requires.fresh)
 
 pub returns-in_default-clause-requests : goal.returns-in_default-clause-requests
-returns-in_default-clause-requests g c = subst (λ (r : Served). HasFewRequests r.sessions) (sym c.unserved.ensures) no_requests
+returns-in_default-clause-requests g c = subst (λ (r : EndedServing). HasFewRequests r.sessions) (sym c.unserved.ensures) no_requests
 
 pub returns-in_default-new-clause-requests : goal.returns-in_default-new-clause-requests
-returns-in_default-new-clause-requests g c = subst (λ (r : Served). HasFewRequests r.sessions) (sym c.unserved-in_default-new.ensures) no_requests
+returns-in_default-new-clause-requests g c = subst (λ (r : EndedServing). HasFewRequests r.sessions) (sym c.unserved-in_default-new.ensures) no_requests
 
 pub loop-turn-init : goal.loop-turn-init
 loop-turn-init g c =
@@ -144,6 +144,26 @@ returns-in-Over-clause-ends g c =
     ends_as c.args.most told faults faults2 current2 c.loop-turn.sessions.items c.in-Over.end c.served-in-Over.result c.served-in-Over.ensures
     (serves_on c.args.most told (g.W.Wire.told c.loop-turn.wire) (g.W.Wire.told c.serve_next.new.wire) faults (g.W.Wire.faults c.loop-turn.wire) faults2 (g.W.Wire.is_current c.loop-turn.wire) current2
     c.in-Over.end c.loop-turn.sessions.items (omega (arith, so.count, c.loop-turn-test.true)) so.comes so.wire_counted so.shut c.in-Over.ensures.over)
+
+pub returns-clause-wanting : goal.returns-clause-wanting
+returns-clause-wanting g c = λ none wants. not_done c.served-2.result c.loop-turn.sessions.items _ c.served-2.ensures wants
+
+pub returns-then-left-eq0-clause-wanting : goal.returns-then-left-eq0-clause-wanting
+returns-then-left-eq0-clause-wanting g c = λ none wants. not_done c.served.result c.loop-turn.sessions.items _ c.served.ensures wants
+
+pub returns-in_default-clause-wanting : goal.returns-in_default-clause-wanting
+returns-in_default-clause-wanting g c = λ none wants. (refl, refl, refl)
+
+pub returns-in_default-new-clause-wanting : goal.returns-in_default-new-clause-wanting
+returns-in_default-new-clause-wanting g c = λ none wants. (refl, refl, refl)
+
+pub returns-in-Over-clause-wanting : goal.returns-in-Over-clause-wanting
+returns-in-Over-clause-wanting g c = λ none wants.
+    let made = c.served-in-Over.ensures in
+    let same = (c.loop-turn.invariant.idle (sym (ap (λ (r : EndedServing). r.sessions) made) ∙ none)).0 in
+    let still = over_wants (g.W.Wire.told c.loop-turn.wire) (g.W.Wire.told c.serve_next.new.wire) (g.W.Wire.faults c.loop-turn.wire) (g.W.Wire.faults c.serve_next.new.wire)
+    (g.W.Wire.is_current c.loop-turn.wire) (g.W.Wire.is_current c.serve_next.new.wire) c.in-Over.end c.in-Over.ensures.over (sym (ap (λ (r : EndedServing). r.end) made) ∙ wants) in
+    (still.0 ∙ ap g.W.Wire.told same, still.1 ∙ ap g.W.Wire.faults same, still.2 ∙ ap g.W.Wire.is_current same)
 
 pub loop-turn-preserved : goal.loop-turn-preserved
 loop-turn-preserved g c =

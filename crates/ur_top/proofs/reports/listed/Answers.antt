@@ -1,6 +1,6 @@
 use Rattle.std.proofs.Common.{◌∙◌, ap}
 use Rattle.ur_code.specs.declared.code.Code.{Code}
-use Rattle.ur_sites.specs.Texts.{sites_text}
+use Rattle.ur_invalidate.specs.Texts.{sites_text}
 use Rattle.ur_top.proofs.Coded.{coded, listed}
 use Rattle.ur_top.proofs.reports.listed.Goals as goal
 

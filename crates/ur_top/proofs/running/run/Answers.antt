@@ -46,6 +46,10 @@ pub returns-clause-schema_only : goal.returns-clause-schema_only
 returns-clause-schema_only g c =
     of.schema_only c.report-status.result c.obey-end.ensures.obeyed c.report-status.ensures.status c.one_application.ensures
 
+pub returns-clause-schema_left : goal.returns-clause-schema_left
+returns-clause-schema_left g c =
+    of.schema_left c.report-status.result c.obey-end.ensures.obeyed c.report-status.ensures.status c.one_application.ensures
+
 pub returns-clause-schema : goal.returns-clause-schema
 returns-clause-schema g c =
     of.schema c.report-status.result c.obey-end.ensures.obeyed c.report-status.ensures.status c.one_application.ensures
@@ -98,9 +102,21 @@ pub returns-clause-not_begun : goal.returns-clause-not_begun
 returns-clause-not_begun g c =
     of.not_begun c.report-status.result c.obey-end.ensures.obeyed c.report-status.ensures.status
 
+pub returns-clause-wanting : goal.returns-clause-wanting
+returns-clause-wanting g c =
+    of.wanting c.report-status.result c.obey-end.ensures.obeyed c.report-status.ensures.status
+
+pub returns-clause-unsaid : goal.returns-clause-unsaid
+returns-clause-unsaid g c =
+    of.unsaid c.report-status.result c.obey-end.ensures.obeyed c.report-status.ensures.status
+
 pub returns-clause-no_serving : goal.returns-clause-no_serving
 returns-clause-no_serving g c =
-    of.no_serving c.obey-end.ensures.obeyed
+    λ none. of.no_serving c.obey-end.ensures.obeyed none
+
+pub returns-clause-no_serving_keeper : goal.returns-clause-no_serving_keeper
+returns-clause-no_serving_keeper g c =
+    λ none. of.no_serving_keeper c.obey-end.ensures.obeyed none
 
 pub returns-clause-idle : goal.returns-clause-idle
 returns-clause-idle g c =
@@ -132,7 +148,11 @@ returns-clause-files_kept g c =
 
 pub returns-clause-never_fall : goal.returns-clause-never_fall
 returns-clause-never_fall g c =
-    (c.obey-end.ensures.obeyed.shelf_later, c.obey-end.ensures.obeyed.wire_later, c.obey-end.ensures.obeyed.keeper_later, of.later (g.O.Sink.faults c.args.out.now) (g.O.Sink.faults c.obey-end.new.out) (g.O.Sink.faults c.report-status.new.out) c.obey-end.ensures.never_falls c.report-status.ensures.never_falls)
+    (c.obey-end.ensures.obeyed.shelf_later, c.obey-end.ensures.obeyed.wire_later, c.obey-end.ensures.obeyed.keeper_later)
+
+pub returns-clause-sink_never_falls : goal.returns-clause-sink_never_falls
+returns-clause-sink_never_falls g c =
+    of.later (g.O.Sink.faults c.args.out.now) (g.O.Sink.faults c.obey-end.new.out) (g.O.Sink.faults c.report-status.new.out) c.obey-end.ensures.never_falls c.report-status.ensures.never_falls
 
 pub returns-clause-printed : goal.returns-clause-printed
 returns-clause-printed g c =

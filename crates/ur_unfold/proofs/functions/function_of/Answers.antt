@@ -1,6 +1,6 @@
 use Rattle.std.proofs.Common.{subst}
 use Rattle.std.specs.Prelude.{IfOk}
-use Rattle.ur_pieces.specs.Keys.{instance_of}
+use Rattle.ur_unfold_pieces.specs.Keys.{instance_of}
 use Rattle.ur_unfold.specs.Typing.{IsHead}
 use Rattle.ur_unfold.proofs.Headed.{headed}
 use Rattle.ur_unfold.proofs.functions.function_of.Goals as goal

@@ -1,6 +1,6 @@
 use Rattle.std.proofs.Common.{map, ap}
 use Rattle.ur_terms.specs.declared.term.Function.{Function}
-use Rattle.ur_pieces.specs.Standing.{instances_in}
+use Rattle.ur_unfold_pieces.specs.Standing.{instances_in}
 use Rattle.ur_unfold.proofs.Assembled.{no_heads, heads_more, bodies_more}
 use Rattle.ur_unfold.proofs.functions.functions_of.Goals as goal
 

@@ -1,6 +1,6 @@
 -- The bodies so far, and the heads of the first instances.
 use Rattle.std.proofs.Common.{◌≡◌, map}
-use Rattle.ur_pieces.specs.Standing.{instances_in}
+use Rattle.ur_unfold_pieces.specs.Standing.{instances_in}
 use Rattle.ur_unfold.specs.Heads.{HeadsAre}
 use Rattle.ur_unfold.proofs.functions.functions_of.Given as goal
 

@@ -1,4 +1,4 @@
-use Rattle.ur_closing.specs.Scopes.{cons_of}
+use Rattle.ur_unfold_static.specs.Scopes.{cons_of}
 use Rattle.ur_unfold.proofs.Headed.{has_types}
 use Rattle.ur_unfold.proofs.functions.types_under.Goals as goal
 

@@ -1,5 +1,5 @@
 use Rattle.ur_source.specs.Reading.{closed_type}
-use Rattle.ur_closing.specs.Scopes.{cons_of}
+use Rattle.ur_unfold_static.specs.Scopes.{cons_of}
 use Rattle.ur_unfold.proofs.Zipped.{params_from, params_more, params_end}
 use Rattle.ur_unfold.proofs.params.params_of.Goals as goal
 

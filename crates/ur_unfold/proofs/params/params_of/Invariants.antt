@@ -2,7 +2,7 @@
 use Rattle.std.proofs.Common.{◌≡◌, ◌++◌, map, drop}
 use Rattle.ur_source.specs.Reading.{closed_type}
 use Rattle.ur_source.specs.Instances.{value_params}
-use Rattle.ur_closing.specs.Scopes.{cons_of}
+use Rattle.ur_unfold_static.specs.Scopes.{cons_of}
 use Rattle.ur_unfold.proofs.params.params_of.Given as goal
 
 abbrev pub invariant-loop-i : goal.invariant-loop-i

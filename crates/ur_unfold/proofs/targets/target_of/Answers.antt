@@ -1,8 +1,8 @@
 use Rattle.std.proofs.Common.{sym, subst, ◌∙◌}
 use Rattle.ur_source.specs.Instances.{IsTarget}
-use Rattle.ur_pieces.specs.Standing.{instances_in}
-use Rattle.ur_pieces.proofs.KeyEq.{key_eq, eq_sound, eq_complete}
-use Rattle.ur_closing.proofs.Keys.{key_at}
+use Rattle.ur_unfold_pieces.specs.Standing.{instances_in}
+use Rattle.ur_unfold_pieces.proofs.KeyEq.{key_eq, eq_sound, eq_complete}
+use Rattle.ur_unfold_static.proofs.Keys.{key_at}
 use Rattle.ur_unfold.proofs.Zipped.{target_at}
 use Rattle.ur_unfold.proofs.targets.target_of.Goals as goal
 

@@ -1,5 +1,5 @@
 use Rattle.ur_source.specs.Instances.{IsTarget}
-use Rattle.ur_pieces.specs.Standing.{instances_in}
+use Rattle.ur_unfold_pieces.specs.Standing.{instances_in}
 use Rattle.ur_unfold.proofs.Zipped.{zipped_from, zipped_at, zipped_end}
 use Rattle.ur_unfold.proofs.targets.targets_of.Goals as goal
 

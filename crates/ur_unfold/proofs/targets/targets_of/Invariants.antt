@@ -2,7 +2,7 @@
 use Rattle.std.proofs.Common.{take}
 use Rattle.std.specs.List.{AllZip}
 use Rattle.ur_source.specs.Instances.{IsTarget}
-use Rattle.ur_pieces.specs.Standing.{instances_in}
+use Rattle.ur_unfold_pieces.specs.Standing.{instances_in}
 use Rattle.ur_unfold.proofs.targets.targets_of.Given as goal
 
 abbrev pub invariant-loop-i : goal.invariant-loop-i

@@ -2,8 +2,8 @@ use Rattle.std.proofs.Common.{sym, subst, ◌∙◌}
 use Rattle.std.proofs.lemmas.Bool.{false≢true}
 use Rattle.std.specs.List.{AllZip}
 use Rattle.ur_source.specs.Source.{language}
-use Rattle.ur_unfolding.specs.Working.{Unfolded}
-use Rattle.ur_pieces.specs.Standing.{instances_in}
+use Rattle.ur_meaning.specs.Working.{Unfolded}
+use Rattle.ur_unfold_pieces.specs.Standing.{instances_in}
 use Rattle.ur_unfold.specs.Making.{AreTerms}
 use Rattle.ur_unfold.proofs.Assembled.{functions_are}
 use Rattle.ur_unfold.proofs.Bounded.{is_small}

@@ -1,5 +1,5 @@
 use Rattle.std.proofs.Common.{subst}
-use Rattle.ur_pieces.specs.Standing.{instances_in}
+use Rattle.ur_unfold_pieces.specs.Standing.{instances_in}
 use Rattle.ur_unfold.specs.Making.{Ended}
 use Rattle.ur_unfold.proofs.Rooting.{ended}
 use Rattle.ur_unfold.specs.declared.unfolding.Made.{Made}

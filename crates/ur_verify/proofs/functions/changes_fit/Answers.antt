@@ -1,8 +1,8 @@
 -- Each change fits the tables.
 use Rattle.ur_sql.specs.Typing.{ChangeFits}
-use Rattle.ur_fits.proofs.Loops.{all_step}
+use Rattle.ur_verify.proofs.Loops.{all_step}
 use Rattle.ur_verify.proofs.Pairs.{all_of}
-use Rattle.ur_fits.proofs.Loops.{not_so}
+use Rattle.ur_verify.proofs.Loops.{not_so}
 use Rattle.ur_verify.proofs.Told.{among}
 use Rattle.ur_verify.proofs.functions.changes_fit.Goals as goal
 

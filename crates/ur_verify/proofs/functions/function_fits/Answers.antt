@@ -2,10 +2,10 @@
 use Rattle.std.proofs.Common.{inl, inr, sym, subst}
 use Rattle.ur_terms.specs.Types.{HasType}
 use Rattle.ur_code.specs.Fits.{signature}
-use Rattle.ur_fits.proofs.Loops.{not_so}
-use Rattle.ur_typing.proofs.Replies.{refused_exit}
+use Rattle.ur_verify.proofs.Loops.{not_so}
+use Rattle.ur_verify_operations.proofs.Replies.{refused_exit}
 use Rattle.ur_verify.proofs.Once.{one_type}
-use Rattle.ur_typing.proofs.Told.{told_exit}
+use Rattle.ur_verify_operations.proofs.Told.{told_exit}
 use Rattle.ur_verify.specs.Misfits.{TermMisfit, FunctionMisfit}
 use Rattle.ur_verify.proofs.functions.function_fits.Goals as goal
 

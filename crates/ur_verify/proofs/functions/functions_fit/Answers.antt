@@ -1,10 +1,10 @@
 -- Each function fits.
 use Rattle.ur_terms.specs.Types.{FitsFunction}
 use Rattle.ur_code.specs.Fits.{signature}
-use Rattle.ur_fits.proofs.Loops.{all_step}
-use Rattle.ur_typing.proofs.Replies.{refused_exit}
+use Rattle.ur_verify.proofs.Loops.{all_step}
+use Rattle.ur_verify_operations.proofs.Replies.{refused_exit}
 use Rattle.ur_verify.proofs.Pairs.{all_given, all_of}
-use Rattle.ur_typing.proofs.Told.{told_exit}
+use Rattle.ur_verify_operations.proofs.Told.{told_exit}
 use Rattle.ur_verify.specs.Misfits.{FunctionMisfit, FunctionsMisfit}
 use Rattle.ur_verify.proofs.Told.{among}
 use Rattle.ur_verify.proofs.functions.functions_fit.Goals as goal

@@ -1,8 +1,8 @@
 -- Each query fits the tables.
 use Rattle.ur_sql.specs.Typing.{QueryFits}
-use Rattle.ur_fits.proofs.Loops.{all_step}
+use Rattle.ur_verify.proofs.Loops.{all_step}
 use Rattle.ur_verify.proofs.Pairs.{all_of}
-use Rattle.ur_fits.proofs.Loops.{not_so}
+use Rattle.ur_verify.proofs.Loops.{not_so}
 use Rattle.ur_verify.proofs.Told.{among}
 use Rattle.ur_verify.proofs.functions.queries_fit.Goals as goal
 

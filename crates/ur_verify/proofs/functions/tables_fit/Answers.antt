@@ -1,7 +1,7 @@
 -- Each table's name is text.
 use Rattle.std.specs.Prelude.{IsUtf8}
 use Rattle.ur_values.specs.declared.schema.TableShape.{TableShape}
-use Rattle.ur_fits.proofs.Loops.{all_step, not_so}
+use Rattle.ur_verify.proofs.Loops.{all_step, not_so}
 use Rattle.ur_verify.proofs.Pairs.{all_given, all_of}
 use Rattle.ur_verify.proofs.Told.{among}
 use Rattle.ur_verify.proofs.functions.tables_fit.Goals as goal

@@ -4,19 +4,19 @@ use Rattle.std.specs.Prelude.{slice_get}
 use Rattle.ur_terms.specs.declared.term.Term.TheVariants as t
 use Rattle.ur_terms.specs.Types.{HasType, OpType, Cover, IsXml}
 use Rattle.ur_code.specs.Fits.{signature}
-use Rattle.ur_fits.proofs.Loops.{not_so}
-use Rattle.ur_typing.specs.Answering.{Answers, Says}
-use Rattle.ur_typing.specs.Wanting.{patterns_in}
-use Rattle.ur_typing.proofs.Replies.{refused_exit}
-use Rattle.ur_verify.specs.Scope.{types_in}
+use Rattle.ur_verify.proofs.Loops.{not_so}
+use Rattle.ur_verify_operations.specs.Answering.{Answers, Says}
+use Rattle.ur_verify_operations.specs.Wanting.{patterns_in}
+use Rattle.ur_verify_operations.proofs.Replies.{refused_exit}
+use Rattle.ur_verify.specs.VerifyScope.{types_in}
 use Rattle.ur_verify.specs.Terms.{HaveAll}
 use Rattle.ur_verify.proofs.Once.{one_type}
 use Rattle.ur_verify.proofs.Rows.{if_from}
 use Rattle.ur_verify.proofs.Inferring.{lifted, have_more, have_at, make_given, made, call_given, called_as, let_given, bound_in, test_given, yes_given, no_given, branch_answers, branch_once, branches_more, first_fits, first_given, later_given, branches_all, case_given, case_not_covered, case_answers, each_given, item_given, each_answers}
 use Rattle.ur_verify.proofs.Sizes.{make_smaller, call_smaller, let_smaller, if_smaller, case_smaller, each_smaller, one_smaller, branch_smaller, branch_less, within, size, sizes, branch_sizes}
-use Rattle.ur_types.specs.declared.types.ValueType.TheVariants as ty
-use Rattle.ur_typing.specs.Misfits.{OperationMisfit}
-use Rattle.ur_typing.proofs.Told.{told_exit}
+use Rattle.ur_values.specs.declared.types.ValueType.TheVariants as ty
+use Rattle.ur_verify_operations.specs.Misfits.{OperationMisfit}
+use Rattle.ur_verify_operations.proofs.Told.{told_exit}
 use Rattle.ur_verify.specs.Misfits.{TermMisfit, TermsMisfit, UnlikeTerm, UnlikeCall, UnlikeXml, UnlikeBranch, BranchMisfit, BranchesMisfit, NoList, no_branch, in_one}
 use Rattle.ur_verify.proofs.Told.{among, placed, lifted_told, variable_told, text_told, never_told, operand_told, argument_told, bound_told, make_told, call_told, let_told, test_told, yes_told, no_told, pattern_exit, body_told, branch_told, matched_told, uncovered_told, case_told, rows_told, list_told, each_told, no_patterns}
 use Rattle.ur_verify.proofs.infer.+inferring.Goals as goal

@@ -2,7 +2,7 @@
 use Rattle.std.proofs.Common.{◌+◌, ◌*◌, take}
 use Rattle.std.specs.Prelude.{All}
 use Rattle.ur_code.specs.Fits.{signature}
-use Rattle.ur_verify.specs.Scope.{types_in}
+use Rattle.ur_verify.specs.VerifyScope.{types_in}
 use Rattle.ur_verify.specs.Terms.{HaveAll, BranchFits}
 use Rattle.ur_verify.proofs.Sizes.{size, sizes, branch_sizes}
 use Rattle.ur_verify.proofs.infer.+inferring.Given as goal

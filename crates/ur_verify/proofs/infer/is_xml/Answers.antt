@@ -1,8 +1,8 @@
 -- The types of XML.
 use Rattle.std.proofs.Common.{refl, sym, subst}
-use Rattle.ur_types.specs.declared.types.ValueType.TheVariants as ty
+use Rattle.ur_values.specs.declared.types.ValueType.TheVariants as ty
 use Rattle.ur_terms.specs.Types.{IsXml, plain_xml, form_xml, xml_page, xml_body, xml_table, xml_row}
-use Rattle.ur_typing.proofs.FieldTypes.{pairs, form_is}
+use Rattle.ur_verify_operations.proofs.FieldTypes.{pairs, form_is}
 use Rattle.ur_verify.proofs.infer.is_xml.Goals as goal
 
 pub returns-in-Page : goal.returns-in-Page

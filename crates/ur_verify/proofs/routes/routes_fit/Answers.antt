@@ -1,9 +1,9 @@
 -- Each route fits its function.
 use Rattle.std.proofs.Common.{length, refl, sym, ap, ◌∙◌}
 use Rattle.ur_code.specs.Fits.{FitsRoute}
-use Rattle.ur_typing.proofs.Replies.{refused_exit}
+use Rattle.ur_verify_operations.proofs.Replies.{refused_exit}
 use Rattle.ur_verify.proofs.Pairs.{pair_step, pair_given, pair_of}
-use Rattle.ur_typing.proofs.Told.{told_exit}
+use Rattle.ur_verify_operations.proofs.Told.{told_exit}
 use Rattle.ur_verify.specs.Misfits.{RouteMisfit, RoutesMisfit, at_targets, at_route}
 use Rattle.ur_verify.proofs.Told.{placed, there}
 use Rattle.ur_verify.proofs.routes.routes_fit.Goals as goal

@@ -1,7 +1,7 @@
 -- The function takes the route's arguments and gives a page.
 use Rattle.std.proofs.Common.{◌≡◌, ◌∙◌, true, [], sym, true≢false}
 use Rattle.ur_code.specs.RouteTypes.{route_params}
-use Rattle.ur_fits.proofs.Loops.{not_so}
+use Rattle.ur_verify.proofs.Loops.{not_so}
 use Rattle.ur_verify.specs.Misfits.{at_params, at_page}
 use Rattle.ur_verify.proofs.Told.{first_as}
 use Rattle.ur_verify.proofs.routes.target_fits.Goals.{else-route-via-then-route+else-not-is_empty, else-route-via-else-route}

@@ -1,6 +1,6 @@
 -- Code fits where each of its parts does.
-use Rattle.ur_typing.proofs.Replies.{refused_exit, answers_by}
-use Rattle.ur_typing.proofs.Told.{told_exit, says_by}
+use Rattle.ur_verify_operations.proofs.Replies.{refused_exit, answers_by}
+use Rattle.ur_verify_operations.proofs.Told.{told_exit, says_by}
 use Rattle.ur_verify.specs.Misfits.{CodeMisfit, FunctionsMisfit, QueriesMisfit, ChangesMisfit, RoutesMisfit, TablesMisfit, in_functions, in_queries, in_changes, in_routes, in_tables}
 use Rattle.ur_verify.proofs.verified.code_fits.Goals as goal
 

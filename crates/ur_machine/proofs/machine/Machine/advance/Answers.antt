@@ -1,5 +1,5 @@
 use Rattle.std.proofs.Common.{◌≤◌, None, sym, subst, arith}
-use Rattle.ur_frames.specs.Steps.{Stands, IsSafe, Ends, beginning}
+use Rattle.ur_machine_frames.specs.Steps.{Stands, IsSafe, Ends, beginning}
 use Rattle.ur_machine.proofs.Running.{control_stands, is_safe, ends_as, pauses}
 use Rattle.ur_machine.proofs.machine.Machine.advance.Goals as goal
 
@@ -22,7 +22,7 @@ pub returns-clause-pauses : goal.returns-clause-pauses
 returns-clause-pauses g c =
     pauses c.args.code.now c.args.self.now c.requires (omega arith) c.control-control.result c.control-control.ensures.control
     c.advance-pause.new.self None c.advance-pause.result (omega arith) (subst (λ m. Ends c.args.code.now.functions m c.control-control.result c.advance-pause.new.self c.advance-pause.result) c.control-control.ensures.frames c.advance-pause.ensures.ends)
-    c.advance-pause.ensures.deed
+    c.advance-pause.ensures.store_call
 
 pub returns-clause-units : goal.returns-clause-units
 returns-clause-units g c = subst (λ m. c.advance-pause.new.self.units ≤ m.units) c.control-control.ensures.frames c.advance-pause.ensures.units

@@ -1,6 +1,6 @@
 use Rattle.std.proofs.Common.{◌++◌, ◌∷◌, None, refl, ap, ◌∙◌, arith}
 use Rattle.std.proofs.lemmas.List.{append-nil}
-use Rattle.ur_frames.specs.declared.frame.Frame.TheVariants as frame
+use Rattle.ur_machine_frames.specs.declared.frame.Frame.TheVariants as frame
 use Rattle.ur_machine.specs.declared.machine.Machine.{Machine}
 use Rattle.ur_machine.proofs.Beginning.{starts_as, target_there}
 use Rattle.ur_machine.proofs.Fitting.{carried_fits}

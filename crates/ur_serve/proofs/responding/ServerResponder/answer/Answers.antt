@@ -1,4 +1,4 @@
-use Rattle.ur_serve.proofs.Sessions.{numbers_within, ready_next, same_program, replied}
+use Rattle.ur_serve.proofs.ServeSessions.{numbers_within, ready_next, same_program, replied}
 use Rattle.ur_serve.proofs.responding.ServerResponder.answer.Goals as goal
 
 pub answer-requires-clause-ready : goal.answer-requires-clause-ready

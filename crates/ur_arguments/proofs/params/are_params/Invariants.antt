@@ -1,7 +1,0 @@
-use Rattle.std.proofs.Common.{drop}
-use Rattle.ur_scopes.specs.Views.{env_in}
-use Rattle.ur_arguments.proofs.Judging.{Judged}
-use Rattle.ur_arguments.proofs.params.are_params.Given as goal
-
-abbrev pub invariant-loop-i : goal.invariant-loop-i
-invariant-loop-i l = Judged (env_in l.around.scope.cons) l.params l.locals (drop l.i l.params) (drop l.i l.locals)

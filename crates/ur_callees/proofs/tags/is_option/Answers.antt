@@ -1,5 +1,0 @@
-use Rattle.ur_callees.proofs.Tagging.{is-option}
-use Rattle.ur_callees.proofs.tags.is_option.Goals as goal
-
-pub returns-in-Opt : goal.returns-in-Opt
-returns-in-Opt c = is-option c.args.of.now _ c.in-Opt.is

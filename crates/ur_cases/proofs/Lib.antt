@@ -1,5 +1,0 @@
-pub mod Binders
-pub mod Broken
-pub mod Chosen
-mod Examples
-pub mod Telling

@@ -1,8 +1,0 @@
-use Rattle.std.proofs.Common.{◌≡◌, drop}
-use Rattle.std.specs.List.{list_any}
-use Rattle.ur_tree.specs.Patterns.{same_pattern}
-use Rattle.ur_cases.specs.Covering.{patterns_in}
-use Rattle.ur_cases.proofs.coverage.has.Given as goal
-
-abbrev pub invariant-loop-i : goal.invariant-loop-i
-invariant-loop-i l = list_any (same_pattern l.pattern) (patterns_in (drop l.i l.branches)) ≡ list_any (same_pattern l.pattern) (patterns_in l.branches)

@@ -1,9 +1,0 @@
-mod Converse
-mod Counted
-mod Explained
-mod ExplainedDecls
-mod ExplainedForms
-mod ExplainedNames
-mod ExplainedTables
-mod ExplainedXml
-mod Refusals

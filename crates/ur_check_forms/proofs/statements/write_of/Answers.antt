@@ -1,0 +1,7 @@
+use Rattle.std.proofs.Common.{◌∙◌}
+use Rattle.ur_check_scopes.proofs.Exits.{ok-along}
+use Rattle.ur_check_forms.proofs.Trees.{write-made}
+use Rattle.ur_check_forms.proofs.statements.write_of.Goals as goal
+
+pub returns : goal.returns
+returns c = ok-along c.new.result (λ x h. h ∙ write-made c.args.at c.args.args) c.new.ensures

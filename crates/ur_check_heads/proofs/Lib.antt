@@ -1,0 +1,16 @@
+pub mod Binding
+pub mod Entering
+pub mod Fitting
+pub mod HeadForms
+pub mod Grouping
+pub mod Reading
+pub mod Seeing
+pub mod Storing
+pub mod Written
+pub mod Occurring
+pub mod Words
+pub mod Marking
+pub mod Aiming
+pub mod Targeting
+pub mod Forming
+pub mod RoutesEntering

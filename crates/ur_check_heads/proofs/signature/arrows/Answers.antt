@@ -1,0 +1,7 @@
+use Rattle.ur_rows.specs.Types.{arrows_of}
+use Rattle.ur_tree.specs.Typing.{types_of}
+use Rattle.ur_check_heads.proofs.RoutesEntering.{arrow-past}
+use Rattle.ur_check_heads.proofs.signature.arrows.Goals as goal
+
+pub loop-last-preserved : goal.loop-last-preserved
+loop-last-preserved c = arrow-past c.loop-last.left.now c.in-Some.rest.now c.in-Some.last.now c.loop-last.of c.in_ok-made.made (arrows_of (types_of c.args.params.now) c.args.last_of.now) c.in-Some.ensures.cases.0 c.in_ok-made.ensures c.loop-last.invariant

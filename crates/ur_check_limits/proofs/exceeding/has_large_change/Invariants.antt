@@ -1,0 +1,9 @@
+-- None so far.
+use Rattle.std.proofs.Common.{◌≡◌, take, false}
+use Rattle.std.specs.Prelude.{nat_lt}
+use Rattle.std.specs.List.{list_any}
+use Rattle.ur_sql.specs.Nodes.{change_nodes}
+use Rattle.ur_check_limits.proofs.exceeding.has_large_change.Given as goal
+
+abbrev pub invariant-loop-change : goal.invariant-loop-change
+invariant-loop-change l = list_any (λ u. nat_lt 16384 (change_nodes u)) (take l.change-index l.change-items) ≡ false

@@ -1,0 +1,10 @@
+pub mod Lacks
+pub mod Params
+pub mod Recorded
+pub mod Settling
+pub mod Sided
+pub mod Statics
+pub mod Trees
+pub mod CalleesCalled
+pub mod Naming
+pub mod Tagging

@@ -1,0 +1,16 @@
+pub mod Binders
+pub mod Exits
+pub mod Finding
+pub mod Judging
+pub mod Loops
+pub mod Meeting
+pub mod Naming
+pub mod Repeating
+pub mod Searching
+pub mod Standing
+pub mod Wanting
+pub mod Giving
+pub mod ArgumentsJudging
+pub mod Nodes
+pub mod There
+pub mod Writing

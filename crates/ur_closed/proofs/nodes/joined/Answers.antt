@@ -1,8 +1,0 @@
-use Rattle.ur_closing.proofs.Laws.{grows_so}
-use Rattle.ur_closed.proofs.nodes.joined.Goals as goal
-
-pub returns-in-None-clause-grows : goal.returns-in-None-clause-grows
-returns-in-None-clause-grows c = grows_so c.args.closing.now
-
-pub returns-in-None-right-clause-grows : goal.returns-in-None-right-clause-grows
-returns-in-None-right-clause-grows c = grows_so c.args.closing.now

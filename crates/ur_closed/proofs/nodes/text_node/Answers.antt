@@ -1,5 +1,0 @@
-use Rattle.ur_closing.proofs.Laws.{grows_so}
-use Rattle.ur_closed.proofs.nodes.text_node.Goals as goal
-
-pub returns-in_err-text-clause-grows : goal.returns-in_err-text-clause-grows
-returns-in_err-text-clause-grows c = grows_so c.args.closing.now

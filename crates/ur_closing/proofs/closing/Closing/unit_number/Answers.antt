@@ -1,5 +1,0 @@
-use Rattle.ur_closing.proofs.Viewed.{unit_is}
-use Rattle.ur_closing.proofs.closing.Closing.unit_number.Goals as goal
-
-pub returns : goal.returns
-returns c = unit_is c.self.inside.cons c.self.inside.lambdas c.self.inside.nodes.keys c.args.self.now c.self.view_is c.self.invariant

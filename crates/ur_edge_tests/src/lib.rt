@@ -1,7 +1,0 @@
-//! Tests of files, connections and reports: those in memory, and files by their paths.
-#![tactic(auto)]
-
-#[cfg(test)]
-mod devices;
-#[cfg(test)]
-mod files;

@@ -1,4 +1,0 @@
-mod Refused
-mod Wholes
-mod Breaches
-mod Declaring

@@ -1,5 +1,0 @@
-use Rattle.ur_fault_laws.proofs.Breaches.{faulty}
-use Rattle.ur_fault_laws.proofs.law.faulty_is_none.Goals as goal
-
-pub returns : goal.returns
-returns c = faulty (record { queries = c.faulty_query_is_none.ensures; changes = c.faulty_change_is_none.ensures })

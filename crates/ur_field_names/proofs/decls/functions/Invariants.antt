@@ -1,6 +1,0 @@
-use Rattle.std.proofs.Common.{◌≡◌, ◌++◌, take, flat_map}
-use Rattle.ur_type_words.specs.FieldNames.{of_function}
-use Rattle.ur_field_names.proofs.decls.functions.Given as goal
-
-abbrev pub invariant-loop-f : goal.invariant-loop-f
-invariant-loop-f l = l.out ≡ l.initial.out ++ flat_map of_function (take l.f-index l.fs)

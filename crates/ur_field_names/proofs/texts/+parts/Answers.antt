@@ -1,6 +1,0 @@
-use Rattle.ur_field_names.proofs.Chains.{two}
-use Rattle.ur_field_names.proofs.TextShapes.{in-element}
-use Rattle.ur_field_names.proofs.texts.+parts.Goals as goal
-
-pub part-returns-in_ok-parts-in-Element : goal.part-returns-in_ok-parts-in-Element
-part-returns-in_ok-parts-in-Element t c = two _ _ _ c.in_ok-tag-in-Element.ensures c.in_ok-parts-in-Element.ensures (in-element c.in-Element.is c.as_slice.ensures)

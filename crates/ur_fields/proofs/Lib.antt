@@ -1,3 +1,0 @@
-pub mod Arrows
-pub mod Finding
-pub mod Scoping

@@ -1,5 +1,0 @@
-use Rattle.ur_fields.proofs.Finding.{Passed}
-use Rattle.ur_fields.proofs.fields.place_of.Given as goal
-
-abbrev pub invariant-loop-i : goal.invariant-loop-i
-invariant-loop-i l = Passed l.l l.r l.i

@@ -1,6 +1,0 @@
-use Rattle.std.proofs.Common.{◌≡◌, drop}
-use Rattle.ur_fields.specs.Standing.{row_holds_arrow}
-use Rattle.ur_fields.proofs.standing.+arrows.Given as goal
-
-abbrev pub invariant-row_holds_arrow-loop-i : goal.invariant-row_holds_arrow-loop-i
-invariant-row_holds_arrow-loop-i l = row_holds_arrow (drop l.i l.parts) ≡ row_holds_arrow l.parts

@@ -1,5 +1,0 @@
-use Rattle.ur_form_laws.proofs.Forms.{definitions-stand}
-use Rattle.ur_form_laws.proofs.laws.definitions_stand.Goals as goal
-
-pub returns : goal.returns
-returns c = definitions-stand c.args.env.now

@@ -1,5 +1,0 @@
-use Rattle.ur_rows.proofs.InOrder.{nf-normal}
-use Rattle.ur_form_laws.proofs.laws.forms_are_normal.Goals as goal
-
-pub returns : goal.returns
-returns c = nf-normal c.args.env.now

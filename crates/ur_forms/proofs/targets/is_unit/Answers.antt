@@ -1,5 +1,0 @@
-use Rattle.ur_forms.proofs.Aiming.{unit-said}
-use Rattle.ur_forms.proofs.targets.is_unit.Goals as goal
-
-pub returns : goal.returns
-returns c = unit-said c.is_empty.result c.args.row.now c.is_empty.ensures

@@ -1,5 +1,0 @@
-pub mod KindNumbers
-pub mod Rules
-pub mod Places
-pub mod Lines
-pub mod Numbers

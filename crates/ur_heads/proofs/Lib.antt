@@ -1,9 +1,0 @@
-pub mod Binding
-pub mod Entering
-pub mod Fitting
-pub mod Forms
-pub mod Grouping
-pub mod Reading
-pub mod Seeing
-pub mod Storing
-pub mod Written

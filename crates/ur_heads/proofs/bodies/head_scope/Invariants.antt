@@ -1,5 +1,0 @@
-use Rattle.ur_heads.proofs.Fitting.{Gathers}
-use Rattle.ur_heads.proofs.bodies.head_scope.Given as goal
-
-abbrev pub invariant-loop-i : goal.invariant-loop-i
-invariant-loop-i l = Gathers l.cons l.scope l.i

@@ -1,2 +1,0 @@
-pub mod Height
-pub mod Lifts

@@ -1,3 +1,0 @@
-pub mod Measuring
-pub mod Normality
-pub mod Made

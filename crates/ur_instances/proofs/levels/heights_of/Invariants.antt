@@ -1,5 +1,0 @@
-use Rattle.ur_instances.proofs.Measuring.{Measured}
-use Rattle.ur_instances.proofs.levels.heights_of.Given as goal
-
-abbrev pub invariant-loop-i : goal.invariant-loop-i
-invariant-loop-i l = Measured l.args l.types l.rows l.i

@@ -1,0 +1,9 @@
+pub mod Places
+pub mod Tables
+mod Examples
+pub mod Named
+pub mod Reading
+pub mod RowLaws
+pub mod Splitting
+pub mod Texts
+pub mod Words

@@ -1,0 +1,8 @@
+use Rattle.std.proofs.Common.{◌≡◌, ◌++◌, ◌≤◌, drop, take, length, option_map}
+use Rattle.ur_keeper_bodies.specs.Rows.{row_of, kinds_in, MayStand}
+use Rattle.ur_keeper_bodies.proofs.row.read_row.Given as goal
+
+-- what is read so far, and what is left
+abbrev pub invariant-loop-column : goal.invariant-loop-column
+invariant-loop-column l =
+    (l.at ≤ length l.bytes) × (option_map (λ r. l.row ++ r) (row_of (kinds_in (drop l.column-index l.columns)) (drop l.at l.bytes)) ≡ row_of (kinds_in l.columns) l.bytes) × MayStand (kinds_in (take l.column-index l.columns)) l.row

@@ -1,0 +1,15 @@
+pub mod Rows
+pub mod LaidLaws
+pub mod Steps
+pub mod Told
+pub mod ReadRows
+pub mod Attaching
+pub mod Finding
+pub mod Faulty
+pub mod Ends
+pub mod KeptRows
+pub mod Loops
+pub mod Low
+pub mod Numbers
+pub mod Within
+pub mod Telling

@@ -1,6 +1,0 @@
-use Rattle.std.proofs.Common.{◌≡◌, ◌++◌, take}
-use Rattle.ur_kinded.specs.Acts.{acts}
-use Rattle.ur_kinded.proofs.log.copy_all.Given as goal
-
-abbrev pub invariant-loop-event : goal.invariant-loop-event
-invariant-loop-event l = acts l.out ≡ acts l.initial.out ++ acts (take l.event-index l.events)

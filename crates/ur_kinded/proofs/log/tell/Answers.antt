@@ -1,5 +1,0 @@
-use Rattle.ur_kinded.proofs.Pieces.{told-one}
-use Rattle.ur_kinded.proofs.log.tell.Goals as goal
-
-pub returns : goal.returns
-returns c = told-one _ _ _ c.in_ok-push.ensures.ok

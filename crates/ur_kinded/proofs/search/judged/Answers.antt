@@ -1,9 +1,0 @@
-use Rattle.ur_syntax.specs.HasKind.{scope_in}
-use Rattle.ur_kinded.proofs.Searching.{passed-kinded, passed-refused}
-use Rattle.ur_kinded.proofs.search.judged.Goals as goal
-
-pub returns-in-Err-clause-kinded : goal.returns-in-Err-clause-kinded
-returns-in-Err-clause-kinded c = passed-kinded (scope_in c.args.env.now) c.args.con.now.span c.args.con.now.form c.args.wanted.now c.in-Err.stop c.but_names.result c.but_names.ensures c.in-Err.ensures.refused
-
-pub returns-in-Err-clause-refused : goal.returns-in-Err-clause-refused
-returns-in-Err-clause-refused c = passed-refused (scope_in c.args.env.now) c.args.con.now.span c.args.con.now.form c.args.wanted.now c.in-Err.stop c.but_names.result c.but_names.ensures c.in-Err.ensures.refused

@@ -1,5 +1,0 @@
-use Rattle.ur_leading_laws.proofs.Led.{walk_is_led}
-use Rattle.ur_leading_laws.proofs.law.walk_is_led.Goals as goal
-
-pub returns : goal.returns
-returns c = walk_is_led

@@ -1,9 +1,0 @@
--- None so far.
-use Rattle.std.proofs.Common.{◌≡◌, take, false}
-use Rattle.std.specs.Prelude.{nat_lt}
-use Rattle.std.specs.List.{list_any}
-use Rattle.ur_sql.specs.Nodes.{query_nodes}
-use Rattle.ur_limits.proofs.exceeding.has_large_query.Given as goal
-
-abbrev pub invariant-loop-query : goal.invariant-loop-query
-invariant-loop-query l = list_any (λ q. nat_lt 16384 (query_nodes q)) (take l.query-index l.query-items) ≡ false

@@ -1,8 +1,0 @@
--- None so far.
-use Rattle.std.proofs.Common.{◌≡◌, take, false, length}
-use Rattle.std.specs.Prelude.{nat_lt}
-use Rattle.std.specs.List.{list_any}
-use Rattle.ur_limits.proofs.exceeding.has_long_from.Given as goal
-
-abbrev pub invariant-loop-query : goal.invariant-loop-query
-invariant-loop-query l = list_any (λ q. nat_lt 3 (length q.from)) (take l.query-index l.query-items) ≡ false

@@ -1,8 +1,0 @@
--- What is left and the nodes so far are what there was at first.
-use Rattle.std.proofs.Common.{◌≡◌, ◌+◌, take}
-use Rattle.std.specs.Prelude.{sum_by}
-use Rattle.ur_sql.specs.Nodes.{scalar_nodes}
-use Rattle.ur_limits.proofs.nodes.after_scalars.Given as goal
-
-abbrev pub invariant-loop-i : goal.invariant-loop-i
-invariant-loop-i l = l.left + sum_by scalar_nodes (take l.i l.all) ≡ l.initial.left

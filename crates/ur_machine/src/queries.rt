@@ -1,0 +1,226 @@
+//! Queries over a keeper and a cache.
+ghost use Rattle.std.specs.Prelude.{◌≡◌, ◌≤◌, ◌<◌, ◌-◌, true, length, map, All, IfOk, OnOk, MatchResult, None};
+ghost use Rattle.std.specs.List.{AllZip};
+ghost use Rattle.ur_base.specs.Counts.{HasCause};
+ghost use Rattle.ur_base.specs.Told.{WhereTold};
+ghost use Rattle.ur_values.specs.Atom.{atom_values};
+ghost use Rattle.ur_keeper.specs.Tables.{Keeps, AreRowsOf, table_at};
+ghost use Rattle.ur_keeper.specs.Keeper.{HasTable, OfShape};
+ghost use Rattle.ur_cache.specs.Entries.{hit};
+ghost use Rattle.ur_terms.specs.declared.term.Op.TheVariants as op;
+ghost use Rattle.ur_terms.specs.State.{built, error_text};
+ghost use Rattle.ur_terms.specs.Ops as ops;
+ghost use Rattle.ur_code.specs.Fits.{Fits};
+ghost use Rattle.ur_machine.specs.Answers.{AreSavedAnswers, AreCurrentAnswers, sites_of, scanned};
+ghost use Rattle.ur_machine.specs.Caching.{LeavesAnswers};
+ghost use Rattle.ur_machine.specs.StoreCalls.{Gives, Answers, OneStep, Takes, StoreCall};
+ghost use Rattle.ur_machine.specs.Ready.{AreReady};
+ghost use Rattle.ur_machine.specs.Reading.{IsKeyOf, FindsRows};
+ghost use Rattle.ur_machine.specs.Stops.{EndsCall};
+
+use crate::stop::TurnStop;
+use crate::turns_calls::scan;
+use crate::{atoms_of, held_rows, keep_rows};
+use std::alloc::Global;
+use ur_base::{Boxed, List};
+use ur_cache::Cache;
+use ur_code::Code;
+use ur_conditions::Patterns;
+use ur_keeper::Keeper;
+use ur_machine_operations::{error_body, is_small};
+use ur_sql::{Item, answer};
+use ur_terms::AnswerForm;
+use ur_values::{Atom, Numbered, Value};
+
+/// Answers a query, which costs one unit and one for each row.
+pub(crate) fn ask<K: Keeper>(
+    alloc: Global,
+    code: &Code,
+    patterns: &Patterns,
+    keeper: &mut K,
+    cache: &mut Cache,
+    units: &mut u32,
+    how: AnswerForm,
+    site: u32,
+    key: List<Value>,
+) -> Result<Value, TurnStop>
+    requires fits { Fits code.now }
+    requires takes { Takes code.now (op.Ask how site) key }
+    requires under_way { K.under_way keeper.old ≡ true }
+    requires kept { K.kept keeper.old ≡ Keeps code.now.schema }
+    requires ready { WhereTold (K.current keeper.old) (AreReady code.now.schema units.old) }
+    requires saved { AreSavedAnswers code.now (K.saved keeper.old) cache.old }
+    requires current { AreCurrentAnswers code.now (K.saved keeper.old) (K.current keeper.old) cache.old }
+    ensures store_call { StoreCall (OneStep (sites_of code.now patterns.now) cache.old cache.new (K.reads keeper.old) (K.reads keeper.new)) code.now (op.Ask how site) key units.old units.new (K.saved keeper.old) (K.saved keeper.new) (K.current keeper.old) (K.current keeper.new) (K.kept keeper.new) (K.under_way keeper.new) result }
+    ensures answers { LeavesAnswers code.now (K.saved keeper.new) (K.current keeper.new) cache.old cache.new result }
+    ensures cause { HasCause TurnStop.Keeper (K.faults keeper.old) (K.faults keeper.new) result }
+{
+    let rows = rows_at(alloc, code, patterns, keeper, cache, site, key.as_slice())?;
+    let value = answer_to(alloc, how, rows, units)?;
+    Ok(value)
+}
+
+/// The rows of a query's answer: those of its entry in the cache, or else those that the tables give.
+fn rows_at<K: Keeper>(
+    alloc: Global,
+    code: &Code,
+    patterns: &Patterns,
+    keeper: &mut K,
+    cache: &mut Cache,
+    site: u32,
+    key: &[Value],
+) -> Result<List<Value>, TurnStop>
+    requires fits { Fits code.now }
+    requires takes { IsKeyOf code.now site key.now }
+    requires under_way { K.under_way keeper.old ≡ true }
+    requires kept { K.kept keeper.old ≡ Keeps code.now.schema }
+    requires saved { AreSavedAnswers code.now (K.saved keeper.old) cache.old }
+    requires current { AreCurrentAnswers code.now (K.saved keeper.old) (K.current keeper.old) cache.old }
+    ensures finds { FindsRows code.now patterns.now site key.now (K.saved keeper.old) (K.saved keeper.new) (K.current keeper.old) (K.current keeper.new) (K.kept keeper.old) (K.kept keeper.new) (K.under_way keeper.new) cache.old cache.new (K.reads keeper.old) (K.reads keeper.new) result }
+    ensures answers { LeavesAnswers code.now (K.saved keeper.new) (K.current keeper.new) cache.old cache.new result }
+    ensures cause { HasCause TurnStop.Keeper (K.faults keeper.old) (K.faults keeper.new) result }
+{
+    let atoms = atoms_of(alloc, key)?;
+    let held = held_rows(alloc, cache, site, atoms.as_slice())?;
+    match held {
+        Some(rows) => Ok(rows),
+        None => rows_of_tables(alloc, code, patterns, keeper, cache, site, key, atoms),
+    }
+}
+
+/// The rows that the tables give, which are kept where they may be. The patterns are there for the contract.
+fn rows_of_tables<K: Keeper>(
+    alloc: Global,
+    code: &Code,
+    patterns: &Patterns,
+    keeper: &mut K,
+    cache: &mut Cache,
+    site: u32,
+    key: &[Value],
+    atoms: List<Atom>,
+) -> Result<List<Value>, TurnStop>
+    requires fits { Fits code.now }
+    requires takes { IsKeyOf code.now site key.now }
+    requires atoms { atom_values atoms ≡ key.now }
+    requires missed { hit cache.old site key.now ≡ None }
+    requires under_way { K.under_way keeper.old ≡ true }
+    requires kept { K.kept keeper.old ≡ Keeps code.now.schema }
+    requires saved { AreSavedAnswers code.now (K.saved keeper.old) cache.old }
+    requires current { AreCurrentAnswers code.now (K.saved keeper.old) (K.current keeper.old) cache.old }
+    ensures finds { FindsRows code.now patterns.now site key.now (K.saved keeper.old) (K.saved keeper.new) (K.current keeper.old) (K.current keeper.new) (K.kept keeper.old) (K.kept keeper.new) (K.under_way keeper.new) cache.old cache.new (K.reads keeper.old) (K.reads keeper.new) result }
+    ensures answers { LeavesAnswers code.now (K.saved keeper.new) (K.current keeper.new) cache.old cache.new result }
+    ensures cause { HasCause TurnStop.Keeper (K.faults keeper.old) (K.faults keeper.new) result }
+{
+    let _ = patterns;
+    match code.queries.get(site as usize) {
+        None => unreachable!(),
+        Some(query) => {
+            let tables = scan_all(alloc, keeper, query.from.as_slice())?;
+            let rows = answer(alloc, query, key, tables.as_slice())?;
+            keep_rows(alloc, cache, site, atoms, &rows)?;
+            Ok(rows)
+        }
+    }
+}
+
+/// The current rows of the table of each item.
+fn scan_all<K: Keeper>(
+    alloc: Global,
+    keeper: &mut K,
+    items: &[Item],
+) -> Result<List<List<Numbered>>, TurnStop>
+    requires under_way { K.under_way keeper.old ≡ true }
+    requires tables { All (λ item. HasTable (K.kept keeper.old) item.table) items.now }
+    ensures rows { IfOk result (λ tables. WhereTold (K.current keeper.old) (λ t. tables ≡ map (λ item. table_at t item.table) items.now)) }
+    ensures every_form { IfOk result (λ tables. AllZip (λ item rows. OfShape (K.kept keeper.old) item.table (λ shape. AreRowsOf shape rows)) items.now tables) }
+    ensures current { OnOk result (K.current keeper.new ≡ K.current keeper.old) }
+    ensures reads { OnOk result (K.reads keeper.new ≡ scanned (length items.now) (K.reads keeper.old)) }
+    ensures ends { EndsCall result (K.saved keeper.old) (K.saved keeper.new) (K.current keeper.new) (K.kept keeper.old) (K.kept keeper.new) (K.under_way keeper.new) }
+    ensures cause { HasCause TurnStop.Keeper (K.faults keeper.old) (K.faults keeper.new) result }
+{
+    let mut tables: List<List<Numbered>> = List::new(alloc);
+    let mut left = items;
+    while let Some((item, rest)) = left.split_first() {
+        let rows = scan(keeper, item.table)?;
+        tables.push(rows)?;
+        left = rest;
+    }
+    Ok(tables)
+}
+
+/// What rows are answered as, for which the query is charged.
+fn answer_to(
+    alloc: Global,
+    how: AnswerForm,
+    rows: List<Value>,
+    units: &mut u32,
+) -> Result<Value, TurnStop>
+    ensures { Answers how rows units.old units.new result }
+{
+    charge(units, rows.len() as u64 + 1)?;
+    let value = answered(alloc, how, rows)?;
+    Ok(value)
+}
+
+/// Takes units, where so many are left.
+pub(crate) fn charge(units: &mut u32, count: u64) -> Result<(), TurnStop>
+    ensures { MatchResult result (λ _. (count ≤ units.old) × (units.old ≤ 4294967295) × (units.new ≡ units.old - count)) (λ stop. (stop ≡ TurnStop.Spent) × (units.old < count) × (units.new ≡ units.old)) }
+{
+    if (*units as u64) < count {
+        return Err(TurnStop::Spent);
+    }
+    *units -= count as u32;
+    Ok(())
+}
+
+/// All rows, the only row, or at most one row.
+fn answered(alloc: Global, how: AnswerForm, rows: List<Value>) -> Result<Value, TurnStop>
+    ensures { Gives (ops.answered how rows) result }
+{
+    let mut rows = rows;
+    match how {
+        AnswerForm::All => small(Value::Many(rows)),
+        AnswerForm::One => match rows.pop() {
+            None => Err(failed(alloc, b"expected one row")),
+            Some(row) => {
+                if rows.is_empty() {
+                    small(row)
+                } else {
+                    Err(failed(alloc, b"expected one row"))
+                }
+            }
+        },
+        AnswerForm::OneOrNone => match rows.pop() {
+            None => Ok(Value::Absent),
+            Some(row) => {
+                if rows.is_empty() {
+                    let row = Boxed::new(alloc, row)?;
+                    small(Value::Present(row))
+                } else {
+                    Err(failed(alloc, b"expected one row"))
+                }
+            }
+        },
+    }
+}
+
+/// The value, or a spent budget where it is too large or too deep.
+fn small(value: Value) -> Result<Value, TurnStop>
+    ensures { Gives (built value) result }
+{
+    if is_small(&value) {
+        Ok(value)
+    } else {
+        Err(TurnStop::Spent)
+    }
+}
+
+/// A program error that is shown as this text.
+pub(crate) fn failed(alloc: Global, text: &[u8]) -> TurnStop
+    ensures { Gives (error_text text.now) (Err result) }
+{
+    match error_body(alloc, text) {
+        Ok(body) => TurnStop::Failed(body),
+        Err(_) => TurnStop::Memory,
+    }
+}

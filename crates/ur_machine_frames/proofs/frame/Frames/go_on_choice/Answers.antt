@@ -1,0 +1,8 @@
+use Rattle.std.proofs.Common.{refl, sym, ap, ◌∙◌}
+use Rattle.std.specs.Option.{option_copied}
+use Rattle.ur_machine_frames.specs.declared.frame.Frame.TheVariants as frame
+use Rattle.ur_machine_frames.proofs.Giving.{resumes_known}
+use Rattle.ur_machine_frames.proofs.frame.Frames.go_on_choice.Goals as goal
+
+pub unreachable-requires : goal.unreachable-requires
+unreachable-requires c = resumes_known c.args.functions.now c.args.self.now frame.Condition c.args.value (λ other x s. refl) (sym c.requires.stands ∙ ap (λ o. option_copied o) c.in-None.is) c.requires.safe

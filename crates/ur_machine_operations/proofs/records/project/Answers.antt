@@ -1,0 +1,15 @@
+use Rattle.ur_terms.specs.Values.{as_fields}
+use Rattle.ur_machine_operations.proofs.Doing.{only_there, does-Project, field_known}
+use Rattle.ur_machine_operations.proofs.records.project.Goals as goal
+
+pub one-requires : goal.one-requires
+one-requires c = (_, c.requires.1)
+
+pub into_fields-requires : goal.into_fields-requires
+into_fields-requires c = only_there as_fields _ _ _ c.requires.1 c.one.ensures
+
+pub unreachable-requires : goal.unreachable-requires
+unreachable-requires c = field_known c.args.name _ _ _ c.requires.0 c.requires.1 c.one.ensures c.into_fields.ensures c.in-None.ensures
+
+pub returns : goal.returns
+returns c = does-Project _ _ _ _ _ c.one.ensures c.into_fields.ensures c.in-Some.ensures

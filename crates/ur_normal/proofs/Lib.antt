@@ -1,9 +1,0 @@
-pub mod Standing
-pub mod Written
-pub mod Agreeing
-pub mod Worded
-pub mod Naming
-pub mod Listing
-pub mod Walked
-pub mod Environs
-pub mod Scopes

@@ -1,6 +1,0 @@
-use Rattle.std.proofs.Common.{refl}
-use Rattle.ur_normal.proofs.Scopes.{without-last}
-use Rattle.ur_normal.proofs.environment.Prepared.pop.Goals as goal
-
-pub returns : goal.returns
-returns c = λ env e s v. without-last c.args.self.now _ c.pop-latest.result c.pop-latest.ensures refl env e s v

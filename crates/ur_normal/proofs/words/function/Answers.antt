@@ -1,5 +1,0 @@
-use Rattle.ur_normal.proofs.Standing.{function-made}
-use Rattle.ur_normal.proofs.words.function.Goals as goal
-
-pub returns : goal.returns
-returns c = function-made c.in_ok-boxed_normal.field-0 c.args.body c.in_ok-boxed_normal.ensures

@@ -1,5 +1,0 @@
-use Rattle.ur_normal.proofs.Standing.{of-list}
-use Rattle.ur_normal.proofs.words.of_list.Goals as goal
-
-pub returns : goal.returns
-returns c = of-list c.function.result c.in_ok-boxed.field-0 c.last_variable.result c.in_ok-boxed.ensures c.last_variable.ensures c.function.ensures

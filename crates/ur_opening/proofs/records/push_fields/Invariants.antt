@@ -1,7 +1,0 @@
--- What is said so far and what will be said of the fields that are left is all.
-use Rattle.std.proofs.Common.{◌≡◌, ◌++◌, drop, map}
-use Rattle.ur_pieces.specs.Told.{told, exp}
-use Rattle.ur_opening.proofs.records.push_fields.Given as goal
-
-abbrev pub invariant-loop-i : goal.invariant-loop-i
-invariant-loop-i l = map told l.parts ++ map (λ g. exp l.scope g.of) (drop l.i l.all) ≡ map told l.initial.parts ++ map (λ g. exp l.scope g.of) l.all

@@ -1,5 +1,0 @@
-use Rattle.ur_operations.proofs.Opened.{not_int}
-use Rattle.ur_operations.proofs.matching.is_int.Goals as goal
-
-pub returns-in_default : goal.returns-in_default
-returns-in_default c = not_int c.args.number c.args.value.now c.in_default.not-Int

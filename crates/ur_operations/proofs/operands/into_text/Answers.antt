@@ -1,5 +1,0 @@
-use Rattle.ur_operations.proofs.Opened.{no_text}
-use Rattle.ur_operations.proofs.operands.into_text.Goals as goal
-
-pub unreachable-requires : goal.unreachable-requires
-unreachable-requires c = c.requires (no_text c.args.value c.in_default.not-Str)

@@ -1,7 +1,0 @@
-use Rattle.std.proofs.Common.{drop}
-use Rattle.ur_parse_rules.specs.Ends.{sql_last}
-use Rattle.ur_parse_rules.specs.SqlParts as s
-use Rattle.ur_parse_change.proofs.change.change_goes_on.Goals as goal
-
-pub returns : goal.returns
-returns c = c.comma_or.ensures (drop 1 (sql_last s.change)) (c.word_or-filter.ensures (drop 2 (sql_last s.change)) c.sees_operator-operates.ensures)

@@ -1,3 +1,0 @@
-pub mod Quotes
-pub mod Brackets
-pub mod Absent

@@ -1,5 +1,0 @@
-pub mod Ending
-mod Listed
-mod Constraints
-mod Tables
-mod Variants

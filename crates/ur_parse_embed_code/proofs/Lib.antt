@@ -1,0 +1,17 @@
+pub mod Codes
+pub mod Numbering
+pub mod Listing
+pub mod Tagged
+pub mod Attributed
+pub mod Elements
+pub mod Completed
+pub mod Filling
+pub mod Fronts
+pub mod Laws
+pub mod Pairs
+pub mod SqlTwins
+pub mod Stripped
+pub mod Trimmed
+pub mod Twins
+pub mod Walks
+pub mod XmlTwins

@@ -1,6 +1,0 @@
-mod Params
-mod Definitions
-mod Functions
-mod Values
-mod Declaring
-mod Modules

@@ -1,3 +1,0 @@
-pub mod Removals
-pub mod Signs
-pub mod Params

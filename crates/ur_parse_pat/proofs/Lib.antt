@@ -1,2 +1,0 @@
-pub mod Binders
-pub mod Patterns

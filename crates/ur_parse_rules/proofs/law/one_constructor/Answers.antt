@@ -1,6 +1,0 @@
-use Rattle.ur_parse_rules.specs.Parts.{of_con}
-use Rattle.ur_parse_rules.proofs.AllDecided.{one_of}
-use Rattle.ur_parse_rules.proofs.law.one_constructor.Goals as goal
-
-pub returns : goal.returns
-returns c = λ p. one_of (of_con p)

@@ -1,0 +1,6 @@
+use Rattle.ur_parse_rules.specs.Parts.{of_con}
+use Rattle.ur_parse_rules.proofs.AllDecided.{one_of}
+use Rattle.ur_parse_rules.proofs.parse_rules_law.one_constructor.Goals as goal
+
+pub returns : goal.returns
+returns c = λ p. one_of (of_con p)

@@ -1,0 +1,6 @@
+use Rattle.ur_parse_rules.specs.Parts.{of_sql}
+use Rattle.ur_parse_rules.proofs.AllDecided.{one_of}
+use Rattle.ur_parse_rules.proofs.parse_rules_law.one_statement.Goals as goal
+
+pub returns : goal.returns
+returns c = λ q p. one_of (of_sql q p)

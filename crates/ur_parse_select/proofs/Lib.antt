@@ -1,9 +1,0 @@
-pub mod Growing
-pub mod Naming
-pub mod Piecing
-pub mod Selecting
-pub mod Joining
-pub mod Filtering
-pub mod Ordering
-pub mod Limiting
-pub mod Querying

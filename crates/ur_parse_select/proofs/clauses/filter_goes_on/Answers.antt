@@ -1,7 +1,0 @@
-use Rattle.std.proofs.Common.{drop}
-use Rattle.ur_parse_rules.specs.Ends.{sql_last}
-use Rattle.ur_parse_rules.specs.SqlParts as s
-use Rattle.ur_parse_select.proofs.clauses.filter_goes_on.Goals as goal
-
-pub returns : goal.returns
-returns c = c.word_or.ensures (drop 1 (sql_last (s.filter c.args.bare))) c.sees_operator-operates.ensures

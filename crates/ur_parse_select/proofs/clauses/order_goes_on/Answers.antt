@@ -1,7 +1,0 @@
-use Rattle.std.proofs.Common.{drop}
-use Rattle.ur_parse_rules.specs.Ends.{sql_last}
-use Rattle.ur_parse_rules.specs.SqlParts as s
-use Rattle.ur_parse_select.proofs.clauses.order_goes_on.Goals as goal
-
-pub returns : goal.returns
-returns c = c.comma_or.ensures (drop 1 (sql_last s.order)) (c.word_or-again.ensures (drop 2 (sql_last s.order)) c.key_goes_on-key.ensures)

@@ -1,5 +1,0 @@
-use Rattle.ur_grammar.proofs.Steps.{made}
-use Rattle.ur_parse_sql.proofs.ends.finished.Goals as goal
-
-pub returns-then-more-clause-refused : goal.returns-then-more-clause-refused
-returns-then-more-clause-refused c = made _ c.unexpected.ensures (λ r s. (s, c.if-more.true))

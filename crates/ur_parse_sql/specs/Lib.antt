@@ -1,4 +1,0 @@
-pub mod Levels
-pub mod Signs
-pub mod Columns
-pub mod Leaves

@@ -1,3 +1,0 @@
-pub mod Tagged
-pub mod Attributed
-pub mod Elements

@@ -1,4 +1,0 @@
-pub mod Words
-pub mod Lines
-pub mod Project
-pub mod Placed

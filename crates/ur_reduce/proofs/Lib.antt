@@ -1,9 +1,0 @@
-pub mod After
-pub mod Within
-pub mod Raised
-pub mod Occurring
-pub mod Uses
-pub mod Outlining
-pub mod Halving
-pub mod Holding
-pub mod Applying

@@ -1,6 +1,0 @@
-use Rattle.std.proofs.Common.{length}
-use Rattle.ur_reduce.specs.Arguments.{args_of}
-use Rattle.ur_reduce.proofs.given.+applied.Given as goal
-
-abbrev pub decreases-applied : goal.decreases-applied
-decreases-applied l = length (args_of l.args.now)

@@ -1,4 +1,0 @@
-pub mod Mapping
-pub mod Occurs
-pub mod Held
-pub mod Arguments

@@ -1,5 +1,0 @@
-use Rattle.ur_route_laws.proofs.Serving.{routes_can_be_served}
-use Rattle.ur_route_laws.proofs.law.routes_can_be_served.Goals as goal
-
-pub returns : goal.returns
-returns c = routes_can_be_served

@@ -1,6 +1,0 @@
-use Rattle.std.proofs.Common.{◌≡◌, map, take}
-use Rattle.ur_routes.specs.Aims.{no_method}
-use Rattle.ur_routes.proofs.aims.no_aims.Given as goal
-
-abbrev pub invariant-loop-i : goal.invariant-loop-i
-invariant-loop-i l = l.of ≡ map (λ f. no_method) (take l._i l.functions)

@@ -1,5 +1,0 @@
-use Rattle.ur_routes.proofs.Forming.{in-path, by-form}
-use Rattle.ur_routes.proofs.arguments.with_last.Goals as goal
-
-pub returns-in_ok-form-in-None : goal.returns-in_ok-form-in-None
-returns-in_ok-form-in-None c = by-form c.args.names.now c.args.params c.args.last.now.of c.in_ok-form-in-None.form c.in_ok-form-in-None.ensures

@@ -1,5 +1,0 @@
-use Rattle.ur_routes.proofs.Forming.{climbs-rise}
-use Rattle.ur_routes.proofs.forms.are_rising.Goals as goal
-
-pub returns : goal.returns
-returns c = λ t. climbs-rise c.args.form.now c.loop-i.i c.loop-i-test.false c.loop-i.invariant

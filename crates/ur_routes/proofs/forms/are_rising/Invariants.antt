@@ -1,5 +1,0 @@
-use Rattle.ur_routes.proofs.Forming.{Climbs}
-use Rattle.ur_routes.proofs.forms.are_rising.Given as goal
-
-abbrev pub invariant-loop-i : goal.invariant-loop-i
-invariant-loop-i l = Climbs l.form l.i

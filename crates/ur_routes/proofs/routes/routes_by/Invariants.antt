@@ -1,5 +1,0 @@
-use Rattle.ur_routes.proofs.Targeting.{Routed}
-use Rattle.ur_routes.proofs.routes.routes_by.Given as goal
-
-abbrev pub invariant-loop-i : goal.invariant-loop-i
-invariant-loop-i l = Routed l.modules l.names l.functions l.aims l.routes l.i

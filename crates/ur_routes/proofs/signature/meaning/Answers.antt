@@ -1,5 +1,0 @@
-use Rattle.ur_routes.proofs.Entering.{meaning-is}
-use Rattle.ur_routes.proofs.signature.meaning.Goals as goal
-
-pub returns : goal.returns
-returns c = meaning-is c.args.project.now c.as_slice-home.result.now c.as_slice.result.now c.args.name.now c.seen.result c.seen.ensures c.as_slice-home.ensures c.as_slice.ensures

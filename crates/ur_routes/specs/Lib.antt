@@ -1,5 +1,0 @@
-pub mod Aims
-pub mod Entries
-pub mod Forms
-pub mod Routes
-pub mod Words

@@ -1,0 +1,15 @@
+pub mod Forms
+pub mod Kept
+pub mod Levels
+pub mod After
+pub mod Passing
+pub mod Closed
+pub mod Applying
+pub mod Applied
+pub mod ReadingLawsForms
+pub mod Names
+pub mod Reading
+pub mod Fresh
+pub mod Given
+pub mod Entries
+pub mod Composed

@@ -1,0 +1,15 @@
+pub mod Arrows
+pub mod Finding
+pub mod Scoping
+pub mod Measuring
+pub mod Normality
+pub mod Made
+pub mod NormalStanding
+pub mod Written
+pub mod Agreeing
+pub mod Worded
+pub mod Naming
+pub mod Listing
+pub mod Walked
+pub mod Environs
+pub mod Scopes

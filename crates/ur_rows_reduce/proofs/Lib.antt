@@ -1,0 +1,11 @@
+pub mod Heights
+pub mod Lifting
+pub mod After
+pub mod Within
+pub mod Raised
+pub mod Occurring
+pub mod Uses
+pub mod Outlining
+pub mod Halving
+pub mod Holding
+pub mod Applying

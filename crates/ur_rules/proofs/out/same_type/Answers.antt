@@ -1,5 +1,0 @@
-use Rattle.ur_rules.proofs.Settling.{types-told}
-use Rattle.ur_rules.proofs.out.same_type.Goals as goal
-
-pub returns : goal.returns
-returns c = types-told c.equal_types.result c.args.a.now c.args.b.now c.equal_types.ensures

@@ -1,4 +1,0 @@
-pub mod Fields
-pub mod Sides
-pub mod Views
-pub mod Written

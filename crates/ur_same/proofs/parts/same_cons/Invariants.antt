@@ -1,6 +1,0 @@
--- Each loop has found the parts so far to be the same.
-use Rattle.std.proofs.Common.{◌≡◌, take}
-use Rattle.ur_same.proofs.parts.same_cons.Given as goal
-
-abbrev pub invariant-loop-i : goal.invariant-loop-i
-invariant-loop-i l = take l.i l.xs ≡ take l.i l.ys

@@ -1,9 +1,0 @@
-use Rattle.ur_type_words.specs.Text as texts
-use Rattle.ur_type_rules.specs.Faults as faults
-use Rattle.ur_scopes.proofs.Exits.{tells-so}
-use Rattle.ur_scopes.proofs.refusals.misfit.Goals as goal
-
-pub returns : goal.returns
-returns c = let x = c.args.found.now in
-    let y = texts.apart_from x c.args.wanted.now in
-    λ names. tells-so names (faults.misfit x c.args.wanted.now) 12 x y c.stopped.result (λ r h. h) (c.stopped.ensures 12 x y c.of_two.ensures)

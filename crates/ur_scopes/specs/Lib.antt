@@ -1,4 +1,0 @@
-pub mod Given
-pub mod Meeting
-pub mod Searching
-pub mod Views

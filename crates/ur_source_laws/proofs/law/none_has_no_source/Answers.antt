@@ -1,5 +1,0 @@
-use Rattle.ur_source_laws.proofs.Made.{none_has_no_source}
-use Rattle.ur_source_laws.proofs.law.none_has_no_source.Goals as goal
-
-pub returns : goal.returns
-returns c = none_has_no_source

@@ -1,4 +1,0 @@
-mod Lacking
-pub mod Expressions
-pub mod Queries
-pub mod Changes

@@ -1,5 +1,0 @@
-use Rattle.std.proofs.Common.{◌≡◌, map, take}
-use Rattle.ur_sqlchange.proofs.actions.kinds_of.Given as goal
-
-abbrev pub invariant-loop-column : goal.invariant-loop-column
-invariant-loop-column l = l.kinds ≡ map (λ c. c.1) (take l.column-index l.column-items)

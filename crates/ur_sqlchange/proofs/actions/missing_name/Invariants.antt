@@ -1,6 +1,0 @@
-use Rattle.std.proofs.Common.{◌≡◌, drop}
-use Rattle.ur_sqltype.specs.Faults.{missing_name}
-use Rattle.ur_sqlchange.proofs.actions.missing_name.Given as goal
-
-abbrev pub invariant-loop-i : goal.invariant-loop-i
-invariant-loop-i l = missing_name l.names l.columns ≡ missing_name l.names (drop l.i l.columns)

@@ -1,6 +1,0 @@
-use Rattle.std.proofs.Common.{◌≡◌, drop}
-use Rattle.ur_sqlexp.specs.Scope.{named_from}
-use Rattle.ur_sqlquery.proofs.fields.name_place.Given as goal
-
-abbrev pub invariant-loop-i : goal.invariant-loop-i
-invariant-loop-i l = named_from (λ n. n) (λ n. n) l.name 0 l.names ≡ named_from (λ n. n) (λ n. n) l.name l.i (drop l.i l.names)

@@ -1,5 +1,0 @@
-use Rattle.ur_sqlquery.proofs.Inserting.{Passed}
-use Rattle.ur_sqlquery.proofs.fields.place_of.Given as goal
-
-abbrev pub invariant-loop-at : goal.invariant-loop-at
-invariant-loop-at l = Passed l.field l.fields l.at

@@ -1,0 +1,8 @@
+use Rattle.ur_sqltype.proofs.Steps.{is-text, is-no-text}
+use Rattle.ur_sqltype.proofs.constants.is_text.Goals as goal
+
+pub returns-in-Ok : goal.returns-in-Ok
+returns-in-Ok c = is-text c.args.bytes.now c.in-Ok.ensures.cases.1
+
+pub returns-in-Err : goal.returns-in-Err
+returns-in-Err c = is-no-text c.args.bytes.now c.in-Err.ensures.cases.0

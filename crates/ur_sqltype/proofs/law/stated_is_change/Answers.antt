@@ -1,5 +1,0 @@
-use Rattle.ur_sqltype.proofs.FittingChange.{is_change}
-use Rattle.ur_sqltype.proofs.law.stated_is_change.Goals as goal
-
-pub returns : goal.returns
-returns c = is_change

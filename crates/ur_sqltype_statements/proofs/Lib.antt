@@ -1,0 +1,6 @@
+mod Inserting
+mod Apart
+mod Untyped
+mod Steps
+mod Pairs
+mod SqlchangeUntyped

@@ -1,0 +1,11 @@
+use Rattle.std.proofs.Common.{sym, subst}
+use Rattle.ur_syntax.specs.declared.sql.SqlChange.TheVariants as written
+use Rattle.ur_sqltype.specs.Change.{within_row}
+use Rattle.ur_sqltype.specs.SqltypeFaults.{ConditionOf, of_delete, not_bool}
+use Rattle.ur_sqltype.specs.Faults.{Misfits}
+use Rattle.ur_values.specs.declared.schema.ColumnKind.TheVariants as kind
+use Rattle.ur_sqltype.proofs.Exits.{refused-exit}
+use Rattle.ur_sqltype_statements.proofs.actions.delete_of.Goals as goal
+
+pub returns-in_err-filter-clause-refused : goal.returns-in_err-filter-clause-refused
+returns-in_err-filter-clause-refused c = refused-exit c.from_residual-in_err-filter.result c.in_err-filter.field-0.0 c.from_residual-in_err-filter.ensures.1 (λ r h. not_bool (within_row c.args.x.now (c.args.at, c.args.shape.now) c.args.kinds.now) h.0 (subst (λ o. ConditionOf c.args.kinds.now (c.args.at, c.args.shape.now) (written.Delete c.args.span c.args.x.now o) (within_row c.args.x.now (c.args.at, c.args.shape.now) c.args.kinds.now) h.0) (sym h.1) (of_delete c.args.span c.args.x.now h.0)) (subst (λ w. Misfits w h.0.form kind.Bool r) c.in_ok-within.ensures h.2)) c.in_err-filter.ensures.refused

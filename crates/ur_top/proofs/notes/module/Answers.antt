@@ -1,7 +1,0 @@
-use Rattle.std.proofs.Common.{refl}
-use Rattle.ur_top.specs.Notes.{notes_module}
-use Rattle.ur_top.proofs.notes.module.Goals as goal
-
-pub returns : goal.returns
-unfolding notes_module
-returns c = refl

@@ -1,7 +1,0 @@
-use Rattle.std.proofs.Common.{refl}
-use Rattle.ur_top.specs.Notes.{notes_project}
-use Rattle.ur_top.proofs.notes.project.Goals as goal
-
-pub returns : goal.returns
-unfolding notes_project
-returns c = refl

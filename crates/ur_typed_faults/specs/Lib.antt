@@ -1,0 +1,2 @@
+pub mod Converse
+pub mod SqlcauseLawsConverse

@@ -1,0 +1,9 @@
+pub mod Lists
+pub mod Rows
+pub mod Decided
+pub mod Meeting
+pub mod Options
+pub mod Patterns
+pub mod Repeats
+pub mod Witnesses
+pub mod Written

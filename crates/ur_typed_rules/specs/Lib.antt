@@ -1,0 +1,11 @@
+pub mod Lacking
+pub mod Laws
+pub mod Names
+pub mod Scopes
+pub mod Tests
+pub mod Arguments
+pub mod Faults
+pub mod Meeting
+pub mod Patterns
+pub mod Repeats
+pub mod Rules

@@ -1,6 +1,0 @@
--- Elements in bodies and forms.
-use Rattle.ur_typing.proofs.Table.{element_to_flow}
-use Rattle.ur_typing.proofs.law.elements_hold.Goals as goal
-
-pub returns : goal.returns
-returns c = element_to_flow

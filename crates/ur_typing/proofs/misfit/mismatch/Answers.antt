@@ -1,6 +1,0 @@
--- The type that was found, as it is written.
-use Rattle.ur_typing.proofs.Unlikes.{written}
-use Rattle.ur_typing.proofs.misfit.mismatch.Goals as goal
-
-pub differing-requires : goal.differing-requires
-differing-requires c = written _ c.args.found.now c.in_ok-left.left c.in_ok-left.ensures

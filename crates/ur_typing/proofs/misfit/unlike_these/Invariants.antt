@@ -1,6 +1,0 @@
--- The types so far are the same.
-use Rattle.std.proofs.Common.{◌≡◌, take}
-use Rattle.ur_typing.proofs.misfit.unlike_these.Given as goal
-
-abbrev pub invariant-loop-place : goal.invariant-loop-place
-invariant-loop-place l = take l.place l.found ≡ take l.place l.wanted

@@ -1,5 +1,0 @@
-use Rattle.ur_typing_laws.proofs.All.{typed_is_sound}
-use Rattle.ur_typing_laws.proofs.law.typed_is_sound.Goals as goal
-
-pub returns : goal.returns
-returns c = typed_is_sound

@@ -1,6 +1,0 @@
-//! What the typing of written expressions gives has its type by the rules.
-#![tactic(auto)]
-
-mod law;
-
-pub use law::typed_is_sound;

@@ -1,0 +1,13 @@
+pub mod Labels
+pub mod Sizes
+pub mod Reading
+pub mod Lambdas
+pub mod Records
+pub mod Closes
+pub mod Told
+pub mod Keys
+pub mod Constructors
+pub mod Standing
+pub mod Moving
+pub mod Forming
+pub mod Rooted

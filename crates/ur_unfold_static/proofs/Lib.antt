@@ -1,0 +1,15 @@
+pub mod Names
+pub mod Counts
+pub mod Words
+pub mod Statics
+pub mod Loops
+pub mod Laws
+pub mod Once
+pub mod Differ
+pub mod Finding
+pub mod Below
+pub mod NodeEq
+pub mod Keys
+pub mod Sound
+pub mod Standing
+pub mod Viewed

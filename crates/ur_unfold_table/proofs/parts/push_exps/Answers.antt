@@ -1,0 +1,17 @@
+use Rattle.std.proofs.Common.{◌++◌, map, ap, ◌∙◌}
+use Rattle.ur_unfold_pieces.specs.Told.{told, exp}
+use Rattle.ur_unfold_table.proofs.Telling.{told_last, first_told, more_told, all_told}
+use Rattle.ur_unfold_table.proofs.parts.push_exps.Goals as goal
+
+pub loop-i-init : goal.loop-i-init
+loop-i-init c = first_told (exp c.args.scope) (map told c.args.parts.now) c.as_slice-all.result.now
+
+pub loop-i-preserved : goal.loop-i-preserved
+loop-i-preserved c =
+    more_told (exp c.args.scope) c.as_slice-all.result.now c.loop-i.i c.index-all-i.result (map told c.loop-i.parts) (map told c.push.new.self) _ c.loop-i-test.true c.index-all-i.is c.loop-i.invariant
+    (told_last c.loop-i.parts c.push.new.self _ c.in_ok-push.ensures.ok)
+
+pub returns : goal.returns
+returns c =
+    all_told (exp c.args.scope) c.as_slice-all.result.now c.loop-i.i (map told c.loop-i.parts) _ c.loop-i-test.false c.loop-i.invariant
+    ∙ ap (λ l. map told c.args.parts.now ++ map (exp c.args.scope) l) c.as_slice-all.ensures

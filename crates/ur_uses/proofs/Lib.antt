@@ -1,6 +1,0 @@
-mod Chains
-mod ConShapes
-mod ExpShapes
-mod Pieces
-mod Projects
-mod TextShapes

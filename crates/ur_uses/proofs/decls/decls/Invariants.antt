@@ -1,6 +1,0 @@
-use Rattle.std.proofs.Common.{◌≡◌, ◌++◌, take, flat_map}
-use Rattle.ur_uses.specs.Decls.{in_decl}
-use Rattle.ur_uses.proofs.decls.decls.Given as goal
-
-abbrev pub invariant-loop-d : goal.invariant-loop-d
-invariant-loop-d l = l.out ≡ l.initial.out ++ flat_map in_decl (take l.d-index l.ds)

@@ -1,6 +1,0 @@
-use Rattle.std.proofs.Common.{◌≡◌, ◌++◌, take, flat_map}
-use Rattle.ur_uses.specs.Decls.{in_val}
-use Rattle.ur_uses.proofs.decls.vals.Given as goal
-
-abbrev pub invariant-loop-v : goal.invariant-loop-v
-invariant-loop-v l = l.out ≡ l.initial.out ++ flat_map in_val (take l.v-index l.vs)

@@ -1,6 +1,0 @@
-use Rattle.std.proofs.Common.{◌≡◌, ◌++◌, take, flat_map}
-use Rattle.ur_uses.specs.Skeletons.{in_xml_part}
-use Rattle.ur_uses.proofs.texts.+parts.Given as goal
-
-abbrev pub invariant-parts-loop-x : goal.invariant-parts-loop-x
-invariant-parts-loop-x l = l.out ≡ l.initial.out ++ flat_map in_xml_part (take l.x-index l.xs)

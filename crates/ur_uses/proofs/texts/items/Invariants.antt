@@ -1,6 +1,0 @@
-use Rattle.std.proofs.Common.{◌≡◌, ◌++◌, take, flat_map}
-use Rattle.ur_uses.specs.Skeletons.{in_item}
-use Rattle.ur_uses.proofs.texts.items.Given as goal
-
-abbrev pub invariant-loop-i : goal.invariant-loop-i
-invariant-loop-i l = l.out ≡ l.initial.out ++ flat_map in_item (take l.i-index l.from)

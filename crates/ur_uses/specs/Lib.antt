@@ -1,4 +1,0 @@
-pub mod Cons
-pub mod Decls
-pub mod Exps
-pub mod Skeletons

@@ -1,0 +1,7 @@
+-- The names so far are distinct.
+use Rattle.std.proofs.Common.{◌≢◌, take}
+use Rattle.std.specs.Prelude.{AllPairs}
+use Rattle.ur_verify_operations.proofs.fields.are_distinct.Given as goal
+
+abbrev pub invariant-loop-i : goal.invariant-loop-i
+invariant-loop-i l = AllPairs (λ m n. m ≢ n) (take l.i l.names)

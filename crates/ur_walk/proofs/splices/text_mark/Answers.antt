@@ -1,7 +1,0 @@
-use Rattle.std.proofs.Common.{◌∙◌, ap₂, sym, []}
-use Rattle.ur_tree.specs.declared.exp.Markup.TheVariants as markup
-use Rattle.ur_typed.specs.Markups.{one_mark}
-use Rattle.ur_walk.proofs.splices.text_mark.Goals as goal
-
-pub returns : goal.returns
-returns c = λ st. ap₂ (λ x y. one_mark x [] (markup.Text y) st) (sym c.new.ensures) (sym c.in_ok-copy.ensures) ∙ c.in_ok-made.ensures st

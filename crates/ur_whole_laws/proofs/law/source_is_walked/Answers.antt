@@ -1,5 +1,0 @@
-use Rattle.ur_whole_laws.proofs.Whole.{source_is_walked}
-use Rattle.ur_whole_laws.proofs.law.source_is_walked.Goals as goal
-
-pub returns : goal.returns
-returns c = source_is_walked
