@@ -30,6 +30,13 @@ def reader_of_program(about: str | None) -> argparse.ArgumentParser:
     return read
 
 
+def itself(program: Path) -> Path:
+    """Returns the program that ./urweb runs, without what ./urweb explains; another one is itself."""
+    if program != PROGRAM:
+        return program
+    return Path(subprocess.run([program, "version", "--program"], capture_output=True, text=True, check=True).stdout.strip())
+
+
 def program_at(text: str) -> Path:
     """Returns the program at a path; one that is not there is refused."""
     path = Path(text).resolve()
