@@ -13,7 +13,7 @@ SCRIPTS = sorted(context.EXAMPLES.rglob("*.test"))
 
 class Examples(unittest.TestCase):
     def test_each_passes_its_tests(self) -> None:
-        self.assertGreaterEqual({it.stem for it in SCRIPTS}, {"forum", "issues", "shop"})
+        self.assertGreaterEqual({it.stem for it in SCRIPTS}, {"forum", "issues", "shop", "tasks"})
         for script in SCRIPTS:
             with self.subTest(script.stem), contextlib.redirect_stdout(io.StringIO()) as out:
                 status = testing.main([str(script.with_suffix(".urp")), str(script)])

@@ -4,7 +4,7 @@ import unittest
 import context  # noqa: F401
 from urweb_companion.layout import Column, Damaged, Refused, Schema, Table, named, one, schema_of
 from urweb_companion.rows import First, number_body, number_of, split
-from urweb_companion.values import MOST_BYTES, value_of
+from urweb_companion.values import MOST_BYTES, cell_of, value_of
 
 NOTE = Table("Main.note", (Column("Body", "string"), Column("Id", "int"), Column("Owner", "string")), (("Id",),), True)
 TEXT = "table Main.note Body:string Id:int Owner:string primary Id\nsequence Main.ids\n"
@@ -13,11 +13,11 @@ TEXT = "table Main.note Body:string Id:int Owner:string primary Id\nsequence Mai
 class Schemas(unittest.TestCase):
     def test_a_text_is_read_and_written(self) -> None:
         self.assertEqual(schema_of(TEXT), Schema((NOTE,), ("Main.ids",)))
-        for text in (TEXT, "", "table A.t\n", "table A.t B:bool C:int unique B C unique C\nsequence A.s\nsequence B.s\n"):
+        for text in (TEXT, "", "table A.t\n", "table A.t B:bool C:int unique B C unique C\nsequence A.s\nsequence B.s\n", "table A.t B:int? C:string? D:bool?\n"):
             self.assertEqual(schema_of(text).text(), text)
 
     def test_other_texts_are_none(self) -> None:
-        for text in ("view x\n", "table\n", "table A.t B\n", "table A.t B:float\n", "table A.t B:int primary C\n", "sequence a b\n"):
+        for text in ("view x\n", "table\n", "table A.t B\n", "table A.t B:float\n", "table A.t B:int??\n", "table A.t B:?\n", "table A.t B:int primary C\n", "sequence a b\n"):
             with self.assertRaises(Damaged, msg=text):
                 schema_of(text)
 
@@ -40,6 +40,22 @@ class Rows(unittest.TestCase):
         for row in ((-(2**63), False, ""), (2**63 - 1, True, "ä😀\0\n"), (-1, True, "x")):
             self.assertEqual(First().read(columns, First().write(columns, row)), row)
         self.assertEqual(First().write(columns, (-1, True, "ä")).hex(), "ffffffffffffffff" "01" "00000002" "c3a4")
+
+    def test_columns_that_may_be_empty(self) -> None:
+        columns = (Column("A", "int?"), Column("B", "bool?"), Column("C", "string?"))
+        for row, body in (
+            ((None, None, None), "00" "00" "00"), ((5, False, ""), "01" "0000000000000005" "01" "00" "01" "00000000"), ((None, True, "ä"), "00" "01" "01" "01" "00000002" "c3a4"),
+        ):
+            self.assertEqual(First().write(columns, row).hex(), body)
+            self.assertEqual(First().read(columns, bytes.fromhex(body)), row)
+        for wrong in ("", "02", "01" "00", "00" "00", "00" "00" "00" "00"):
+            with self.assertRaises(Damaged, msg=wrong):
+                First().read(columns, bytes.fromhex(wrong))
+        most = Column("C", "string?")
+        text = "x" * (MOST_BYTES - 32)
+        self.assertEqual(First().read((most,), First().write((most,), (text,))), (text,))
+        with self.assertRaises(Damaged):
+            First().read((most,), First().write((most,), (text + "x",)))
 
     def test_bodies_that_are_no_row(self) -> None:
         body = First().write(NOTE.columns, ("a&b", 1, "ann"))
@@ -67,10 +83,20 @@ class Values(unittest.TestCase):
         ):
             self.assertEqual(value_of(Column("A", kind), text), value)
 
+    def test_texts_of_columns_that_may_be_empty(self) -> None:
+        for kind, text, value in (
+            ("int?", "", None), ("int?", "-7", -7), ("bool?", "", None), ("bool?", "True", True), ("string?", "", None), ("string?", "x", "x"),
+            ("string?", '""', ""), ("string?", '"""', '"'), ("string?", '""""', '""'), ("string?", '"', '"'), ("string?", "NULL", "NULL"),
+        ):
+            self.assertEqual(value_of(Column("A", kind), text), value)
+        for value in (None, "", '"', '""', '"a"', "a", "NULL"):
+            self.assertEqual(value_of(Column("A", "string?"), cell_of(Column("A", "string?"), value)), value)
+        self.assertEqual(cell_of(Column("A", "string"), '""'), '""')
+
     def test_other_texts(self) -> None:
         for kind, text in (
             ("int", ""), ("int", "x"), ("int", "1.0"), ("int", "9223372036854775808"), ("int", "--1"), ("int", "٣"), ("bool", "1"), ("bool", ""),
-            ("string", "\udcff"), ("string", "x" * (MOST_BYTES + 1)),
+            ("string", "\udcff"), ("string", "x" * (MOST_BYTES + 1)), ("int?", "x"), ("bool?", "NULL"), ("string?", "x" * (MOST_BYTES - 31)),
         ):
             with self.assertRaises(ValueError, msg=(kind, text[:20])):
                 value_of(Column("A", kind), text)

@@ -90,7 +90,7 @@ def _source(schema: Schema, module: str) -> str:
     lines = [f"sequence {name.partition('.')[2]}" for name in schema.sequences if _module(name) == module]
     for table in schema.tables:
         if _module(table.name) == module:
-            columns = ", ".join(f"{it.name} : {it.kind}" for it in table.columns)
+            columns = ", ".join(map(str, table.columns))
             keys = [f"{_key(table.has_primary, at)} ({', '.join(key)})" for at, key in enumerate(table.keys)]
             lines.append(" ".join([f"table {table.short} : {{{columns}}}", ", ".join(keys)]).rstrip())
     return "".join(f"{it}\n" for it in lines)

@@ -9,7 +9,7 @@ from typing import TextIO
 from urweb_companion.layout import Refused, Table
 from urweb_companion.printing import rows
 from urweb_companion.store import Store, placed
-from urweb_companion.values import text_of
+from urweb_companion.values import cell_of
 
 # `INT` and not `INTEGER`: a key of one column is no other name of SQLite's own number of rows then, which keeps their order.
 TYPES = {"int": "INT", "string": "TEXT", "bool": "BOOLEAN"}
@@ -21,7 +21,7 @@ def write_csv(store: Store, table: Table, output: TextIO) -> None:
     writer = csv.writer(output, lineterminator="\n")
     writer.writerow(it.name for it in table.columns)
     for _, row in store.rows(table):
-        writer.writerow(text_of(value) for value in row)
+        writer.writerow(cell_of(*it) for it in zip(table.columns, row, strict=True))
 
 
 def write_database(store: Store, tables: list[Table], path: Path) -> str:
@@ -59,7 +59,7 @@ def _names(tables: list[Table]) -> list[str]:
 def _create(table: Table, name: str) -> str:
     """Returns the statement that makes a table."""
     columns = dict(zip([it.name for it in table.columns], distinct(it.name for it in table.columns), strict=True))
-    parts = [f"{quoted(columns[it.name])} {TYPES[it.kind]} NOT NULL" for it in table.columns]
+    parts = [f"{quoted(columns[it.name])} {TYPES[it.inner]}{'' if it.is_optional else ' NOT NULL'}" for it in table.columns]
     for at, key in enumerate(table.keys):
         word = "PRIMARY KEY" if at == 0 and table.has_primary else "UNIQUE"
         parts.append(f"{word} ({', '.join(quoted(columns[it]) for it in key)})")

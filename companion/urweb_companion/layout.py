@@ -6,6 +6,7 @@ from urweb_companion.clear import clear
 
 KEY_WORDS = ("primary", "unique")
 KINDS = ("int", "string", "bool")
+OPTIONAL = "?"
 
 
 class Refused(Exception):
@@ -23,8 +24,23 @@ class Column:
     name: str
     kind: str
 
+    @property
+    def is_optional(self) -> bool:
+        """Whether the column may be empty."""
+        return self.kind.endswith(OPTIONAL)
+
+    @property
+    def inner(self) -> str:
+        """Returns the kind of the values that are not empty."""
+        return self.kind.removesuffix(OPTIONAL)
+
+    @property
+    def type(self) -> str:
+        """Returns the type as the language has it."""
+        return f"option {self.inner}" if self.is_optional else self.kind
+
     def __str__(self) -> str:
-        return f"{self.name} : {self.kind}"
+        return f"{self.name} : {self.type}"
 
 
 @dataclass(frozen=True)
@@ -106,8 +122,8 @@ def _column(table: str, word: str) -> Column:
     name, colon, kind = word.partition(":")
     if not name or not colon:
         raise Damaged(f"the table {table} has {word!r} in the place of a column")
-    if kind not in KINDS:
-        raise Damaged(f"{table}.{name} is of the kind {kind!r}; known are {', '.join(KINDS)}")
+    if kind.removesuffix(OPTIONAL) not in KINDS:
+        raise Damaged(f"{table}.{name} is of the kind {kind!r}; known are {', '.join(KINDS)}, and each with {OPTIONAL}")
     return Column(name, kind)
 
 

@@ -11,7 +11,7 @@ from urweb_companion.layout import Column, Refused
 from urweb_companion.migration import Given, Number, Plan, TablePlan, Taken, plan_of
 from urweb_companion.printing import rows
 from urweb_companion.store import Store, opened, placed, settle, writing
-from urweb_companion.values import text_of
+from urweb_companion.values import Value, text_of
 
 DESCRIPTION = """Makes a file of tables for a project whose tables have changed. It says what is new, dropped and renamed, and asks for each value that is
 missing, on a terminal; nothing is written unless all is known. The old file stays as it is."""
@@ -93,7 +93,7 @@ def wanted(table: TablePlan, column: Column) -> str:
 
 def may_take(old: Column, new: Column) -> bool:
     """Whether a column's values may be those of an old one, or texts of them."""
-    return old.kind == new.kind or "string" in (old.kind, new.kind)
+    return old.inner == new.inner or "string" in (old.inner, new.inner)
 
 
 def report(plan: Plan) -> list[str]:
@@ -126,11 +126,18 @@ def _keys(keys: tuple[tuple[str, ...], ...]) -> str:
     return ", ".join(f"({', '.join(key)})" for key in keys) or "none"
 
 
+def _shown(value: Value) -> str:
+    """Returns a value as a report has it."""
+    if value is None:
+        return "empty"
+    return repr(clear(value)) if isinstance(value, str) else text_of(value)
+
+
 def _column_report(it: TablePlan, column: Column) -> str | None:
     """Says what becomes of a column, and nothing where it stays."""
     match it.origins.get(column.name):
         case Given(value):
-            return f"  {column} is new: {clear(text_of(value))!r}" if column.kind == "string" else f"  {column} is new: {text_of(value)}"
+            return f"  {column} is new: {_shown(value)}"
         case Taken(old) if old != column:
             return f"  {column} was {old}"
         case None:

@@ -78,10 +78,14 @@ class TablePlan:
         if isinstance(origin, Given):
             return origin.value
         value = row[places[origin.column.name]]
-        return value if origin.column.kind == column.kind else self._read(column, number, value)
+        return value if origin.column.kind == column.kind else self._other(origin.column, column, number, value)
 
-    def _read(self, column: Column, number: int, value: Value) -> Value:
-        """Returns what the text of a value of another kind spells."""
+    def _other(self, old: Column, column: Column, number: int, value: Value) -> Value:
+        """Returns the value that is not empty, an empty one where the column may be so, and what the text of a value of another kind spells."""
+        if value is None and not column.is_optional:
+            raise Refused(f"{self.table.name}.{column.name}, row {number}: the old value is empty")
+        if value is None or old.inner == column.inner:
+            return value
         try:
             return value_of(column, text_of(value))
         except ValueError as why:

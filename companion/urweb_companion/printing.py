@@ -31,10 +31,10 @@ def _table_lines(store: Store, table: Table) -> Iterator[str]:
     widths = [width(it.name) for it in table.columns]
     for _, row in store.rows(table):
         widths = [max(most, width(_cell(value))) for most, value in zip(widths, row, strict=True)]
-    yield _line([it.name for it in table.columns], [it.kind for it in table.columns], widths)
+    yield _line([it.name for it in table.columns], [it.inner for it in table.columns], widths)
     yield GAP.join("-" * most for most in widths)
     for _, row in store.rows(table):
-        yield _line([_cell(value) for value in row], [it.kind for it in table.columns], widths)
+        yield _line([_cell(value) for value in row], [it.inner for it in table.columns], widths)
 
 
 def _line(cells: list[str], kinds: list[str], widths: list[int]) -> str:

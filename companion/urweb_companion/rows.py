@@ -3,9 +3,12 @@ import struct
 from typing import Protocol
 
 from urweb_companion.layout import Column, Damaged
-from urweb_companion.values import MOST_BYTES, Row, Value
+from urweb_companion.values import Row, Value, most_bytes
 
 Columns = tuple[Column, ...]
+
+# What stands before the value of a column that may be empty.
+NONE, SOME = b"\0", b"\1"
 
 
 class Layout(Protocol):
@@ -31,7 +34,7 @@ class First:
         return tuple(values)
 
     def write(self, columns: Columns, row: Row) -> bytes:
-        return b"".join(_value_body(value) for value in row)
+        return b"".join(_column_body(*it) for it in zip(columns, row, strict=True))
 
 
 def split(text: str) -> tuple[Layout, str]:
@@ -44,7 +47,19 @@ def split(text: str) -> tuple[Layout, str]:
 
 def _read_value(column: Column, body: bytes, at: int) -> tuple[Value, int]:
     """Returns the value of a column at a place, and the place behind it."""
-    match column.kind:
+    if not column.is_optional:
+        return _read_inner(column, body, at)
+    mark = _part(column, body, at, 1)
+    if mark == NONE:
+        return None, at + 1
+    if mark != SOME:
+        raise Damaged(f"{column.name} begins with neither 0 nor 1")
+    return _read_inner(column, body, at + 1)
+
+
+def _read_inner(column: Column, body: bytes, at: int) -> tuple[Value, int]:
+    """Returns the value that is not empty at a place, and the place behind it."""
+    match column.inner:
         case "int":
             return struct.unpack(">q", _part(column, body, at, 8))[0], at + 8
         case "bool":
@@ -67,15 +82,21 @@ def _bool_of(column: Column, part: bytes) -> bool:
 
 
 def _text_of(column: Column, part: bytes) -> str:
-    if len(part) > MOST_BYTES:
-        raise Damaged(f"{column.name} has {len(part)} bytes, more than {MOST_BYTES}")
+    if len(part) > most_bytes(column):
+        raise Damaged(f"{column.name} has {len(part)} bytes, more than {most_bytes(column)}")
     try:
         return part.decode()
     except UnicodeDecodeError:
         raise Damaged(f"{column.name} is not UTF-8") from None
 
 
-def _value_body(value: Value) -> bytes:
+def _column_body(column: Column, value: Value) -> bytes:
+    if value is None:
+        return NONE
+    return (SOME if column.is_optional else b"") + _value_body(value)
+
+
+def _value_body(value: int | str | bool) -> bytes:
     if isinstance(value, bool):
         return bytes([value])
     if isinstance(value, int):

@@ -39,6 +39,7 @@ class Page:
 
     def send(self, button: Any, text: str | None = None) -> None:
         """Fills the field before a button, and clicks the button. Returns when the next page is there."""
+        from selenium.common.exceptions import WebDriverException
         from selenium.webdriver.support import expected_conditions
         from selenium.webdriver.support.wait import WebDriverWait
 
@@ -47,7 +48,8 @@ class Page:
             field.send_keys(text)
         conditions: Any = expected_conditions
         submit.click()
-        WebDriverWait(self.driver, SECONDS).until(conditions.staleness_of(submit))
+        # (a button whose page is just being replaced is for some milliseconds one of no document: asked again, it is stale)
+        WebDriverWait(self.driver, SECONDS, ignored_exceptions=[WebDriverException]).until(conditions.staleness_of(submit))
 
     def add(self, text: str) -> None:
         self.send(self.inputs()[0], text)

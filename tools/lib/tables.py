@@ -40,16 +40,43 @@ def value_as_bytes(value: Value) -> bytes:
 
 
 def values_of(body: bytes, kinds: Sequence[str]) -> list[bytes]:
-    """Returns the bytes of each column of a body, of a text without its length. A ValueError says that the body has another length."""
+    """Returns the bytes of each column of a body that has no empty one, of a text without its length. A ValueError says that it is none."""
+    found = []
+    for value in columns_of(body, kinds):
+        if value is None:
+            raise ValueError("a column is empty")
+        found.append(value)
+    return found
+
+
+def columns_of(body: bytes, kinds: Sequence[str]) -> list[bytes | None]:
+    """Returns the bytes of each column of a body, of a text without its length. Where a kind ends in `?` a column may be empty, which is None.
+
+    A ValueError says that the body has another length, or that an option begins with neither 0 nor 1.
+    """
     found = []
     for kind in kinds:
-        value, body = halves(body, SIZES[kind])
-        if kind == "string":
-            value, body = halves(body, int.from_bytes(value, "big"))
+        value, body = option_in(body, kind[:-1]) if kind.endswith("?") else value_in(body, kind)
         found.append(value)
     if body:
         raise ValueError("a body is too long")
     return found
+
+
+def option_in(body: bytes, kind: str) -> tuple[bytes | None, bytes]:
+    """Returns the bytes of a value that may be empty, None where it is, and what stands after it."""
+    front, body = halves(body, 1)
+    if front == b"\0":
+        return None, body
+    if front != b"\1":
+        raise ValueError("an option begins with 0 or 1")
+    return value_in(body, kind)
+
+
+def value_in(body: bytes, kind: str) -> tuple[bytes, bytes]:
+    """Returns the bytes of a value, of a text without its length, and what stands after it."""
+    value, body = halves(body, SIZES[kind])
+    return halves(body, int.from_bytes(value, "big")) if kind == "string" else (value, body)
 
 
 def halves(body: bytes, size: int) -> tuple[bytes, bytes]:

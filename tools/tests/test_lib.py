@@ -107,6 +107,16 @@ class Small(unittest.TestCase):
             with self.assertRaises(ValueError):
                 tables.values_of(body, kinds)
 
+    def test_bodies_of_options(self) -> None:
+        kinds = ("int?", "string?")
+        self.assertEqual(tables.columns_of(b"\0" b"\1" b"\0\0\0\2ab", kinds), [None, b"ab"])
+        self.assertEqual(tables.columns_of(b"\1" + b"\0" * 7 + b"\5" b"\0", kinds), [b"\0" * 7 + b"\5", None])
+        for body in (b"\0", b"\2\0", b"\0\0\0", b"\1\0\0"):
+            with self.assertRaises(ValueError):
+                tables.columns_of(body, kinds)
+        with self.assertRaises(ValueError):
+            tables.values_of(b"\0\0", kinds)
+
     def test_ports_differ(self) -> None:
         self.assertEqual(len({served.free_port() for _ in range(20)}), 20)
 

@@ -185,18 +185,16 @@ def in_sql(scene: Scene) -> list[str]:
         return [f"beside COUNT, SUM, MIN and MAX a column is grouped: add GROUP BY {column}, or leave {column} out"]
     if found == "no value":
         return [f"an INSERT gives each column of its table a value: {wanted} has none"]
-    if found == "IS NULL":
-        return ["IS NULL is for columns that may be missing, and there are none: each column has a value"]
-    if scene.part.startswith("table"):
-        return ["a column is an int, a string or a bool; what may be missing is kept as an empty text or in a table of its own"]
+    if wanted == "int, string, bool or an option of these":
+        return [f"{'a column is' if scene.part.startswith('table') else 'what {[e]} puts in is'} an int, a string or a bool, or an option of one"]
+    if "LIMIT" in scene.part or "OFFSET" in scene.part:
+        return ["LIMIT and OFFSET are ints"]
+    if found == "NULL" or wanted == "an option" or "option " in found + wanted:
+        return _options_in_sql(scene)
     if found.isdigit() and wanted.isdigit():
         return [f"values: {found}; columns: {wanted}"]
     if wanted == "bool":
         return [f"a condition is a comparison, as {scene.part} <> {'0' if found == 'int' else chr(39) * 2}" if "\n" not in scene.part and len(scene.part) < 40 else "a condition is a comparison"]
-    if "LIMIT" in scene.part or "OFFSET" in scene.part:
-        return ["LIMIT and OFFSET are ints"]
-    if found.startswith("option "):
-        return ["what {[e]} puts in is an int, a string or a bool: case e of None => .. | Some x => .. takes the value out first"]
     if wanted == "int or string":
         return ["bools are compared by = and <> alone"]
     if scene.line_before.rstrip().endswith("SUM("):
@@ -204,6 +202,26 @@ def in_sql(scene: Scene) -> list[str]:
     if {found, wanted} == {"int", "string"}:
         return ["an int is written 3, and a text 'a'; what {[e]} puts in has the type of e"]
     return []
+
+
+def _options_in_sql(scene: Scene) -> list[str]:
+    """Returns what is to do where a column that may be empty, NULL or SOME stands in the wrong place."""
+    found, wanted = as_source(scene.refusal.found), as_source(scene.refusal.wanted)
+    if wanted == "an option":
+        return [f"IS NULL is for columns of type option {found}: this has a value in each row"]
+    if found == "NULL" and wanted == "annotation":
+        return ["NULL stands beside = or <> and a column that may be empty, or is what INSERT and SET give to one"]
+    if found == "NULL":
+        return [f"NULL is for columns of type option {wanted}: this has a value in each row"]
+    if scene.part.startswith("table"):
+        return ["a column of a key has a value in each row, and is no option"]
+    if wanted == f"option {found}":
+        return ["SOME(e) makes an option of it"]
+    if found == f"option {wanted}":
+        return ["beside what may be empty stands SOME(e) or NULL"]
+    if wanted == "int or string":
+        return ["options are compared by = and <> alone, and ordered by ORDER BY"]
+    return ["SOME, SUM, MIN and MAX take no options"]
 
 
 def too_large(_: Scene) -> list[str]:

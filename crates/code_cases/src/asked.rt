@@ -233,7 +233,7 @@ fn put_read(alloc: Global, segment: &str, of: ColumnKind, p: &mut Printer) -> Re
 }
 
 fn put_back(alloc: Global, value: &Value, p: &mut Printer) -> Result<(), Memory> {
-    if value.is_atomic() {
+    if value.is_basic() {
         let text = segment(alloc, value)?;
         p.word(text.as_slice());
     }

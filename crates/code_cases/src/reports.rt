@@ -1,4 +1,7 @@
 //! Texts that a run prints.
+ghost use Rattle.std.specs.Prelude.{IsTrue};
+ghost use Rattle.ur_base.specs.Codes.{is_refusal_code};
+
 use crate::codes::{nothing, take_text};
 use crate::words::{first, number, text};
 use case_files::Printer;
@@ -23,6 +26,19 @@ fn put_refusal(
     Ok(())
 }
 
+/// A code of refusals: the number, or 1 where that is none.
+fn code_of(number: u8) -> u8
+    ensures { IsTrue (is_refusal_code result) }
+{
+    if number < 1 {
+        return 1;
+    }
+    if number > 20 {
+        return 1;
+    }
+    number
+}
+
 /// `main.ur 10 12 15 int string` is a file, a code, a place, and what is said.
 fn refusal(alloc: Global, words: &str, p: &mut Printer) -> Result<(), Memory> {
     let (file, rest) = first(words);
@@ -33,7 +49,7 @@ fn refusal(alloc: Global, words: &str, p: &mut Printer) -> Result<(), Memory> {
     let left = text(alloc, left)?;
     let right = text(alloc, right)?;
     let refusal = Refusal {
-        code: code.parse::<u8>().unwrap_or(0).min(99),
+        code: code_of(code.parse::<u8>().unwrap_or(1)),
         span: Span {
             file: 1,
             from: number(from),

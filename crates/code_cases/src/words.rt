@@ -28,12 +28,15 @@ pub fn numbers(alloc: Global, word: &str) -> Result<List<u32>, Memory> {
     Ok(numbers)
 }
 
-/// `i`, `s` or `b`.
+/// `i`, `s` or `b`, and `I`, `S` or `B` for an option of it.
 pub fn kind(letter: u8) -> Option<ColumnKind> {
     match letter {
         b'i' => Some(ColumnKind::Int),
         b's' => Some(ColumnKind::Str),
         b'b' => Some(ColumnKind::Bool),
+        b'I' => Some(ColumnKind::OptInt),
+        b'S' => Some(ColumnKind::OptStr),
+        b'B' => Some(ColumnKind::OptBool),
         _ => None,
     }
 }

@@ -95,7 +95,20 @@ fn put_rows(rows: &[Numbered], p: &mut Printer) {
     }
 }
 
+/// A value of a column; `none` and `(some v)` where the column may be empty.
 fn put_value(value: &Value, p: &mut Printer) {
+    match value {
+        Value::Absent => p.word(b"none"),
+        Value::Present(held) => {
+            p.word(b"(some");
+            put_basic(held.get(), p);
+            p.put(b")");
+        }
+        basic => put_basic(basic, p),
+    }
+}
+
+fn put_basic(value: &Value, p: &mut Printer) {
     match value {
         Value::Int(int) => p.int(*int),
         Value::Str(text) => p.quoted(text.as_slice()),

@@ -1,7 +1,7 @@
 //! Tables with their rows, and the values of antiquotes, as cases write them.
 use std::alloc::Global;
 use std::mem;
-use ur_base::{List, Memory, Text};
+use ur_base::{Boxed, List, Memory, Text};
 use ur_rows::{Normal, NormalType};
 use ur_values::{ColumnKind, Numbered, Row, Schema, TableShape, Value};
 
@@ -30,16 +30,19 @@ pub struct World {
     next: List<Normal>,
 }
 
-/// The last word names the kind.
+/// The last word names the kind; with `?` it is one of options.
 fn column_kind(word: &str) -> ColumnKind {
     match word {
         "int" => ColumnKind::Int,
         "bool" => ColumnKind::Bool,
+        "int?" => ColumnKind::OptInt,
+        "bool?" => ColumnKind::OptBool,
+        "string?" => ColumnKind::OptStr,
         _ => ColumnKind::Str,
     }
 }
 
-/// `A:int`
+/// `A:int` or `A:int?`
 fn column(alloc: Global, word: &str) -> Result<(Text, ColumnKind), Memory> {
     let (name, of) = word.split_once(':').unwrap_or((word, ""));
     let name = List::from_slice(alloc, name.as_bytes())?;
@@ -79,7 +82,7 @@ fn table(alloc: Global, line: &str) -> Result<TableShape, Memory> {
 }
 
 /// `true`, `false`, an int, or a text.
-fn value(alloc: Global, word: &str) -> Result<Value, Memory> {
+fn basic_value(alloc: Global, word: &str) -> Result<Value, Memory> {
     match word {
         "true" => return Ok(Value::Bool(true)),
         "false" => return Ok(Value::Bool(false)),
@@ -88,6 +91,26 @@ fn value(alloc: Global, word: &str) -> Result<Value, Memory> {
     match word.parse::<i64>() {
         Ok(n) => Ok(Value::Int(n)),
         Err(_) => Ok(Value::Str(List::from_slice(alloc, word.as_bytes())?)),
+    }
+}
+
+/// What stands in `SOME(5)`, if the word is of this form.
+fn inside(word: &str) -> Option<&str> {
+    match word.split_once('(') {
+        Some((_, rest)) => rest.strip_suffix(')'),
+        None => None,
+    }
+}
+
+/// `NULL`, `SOME(5)`, or a value that is no option.
+fn value(alloc: Global, word: &str) -> Result<Value, Memory> {
+    if let Some(held) = inside(word) {
+        let held = basic_value(alloc, held)?;
+        return Ok(Value::Present(Boxed::new(alloc, held)?));
+    }
+    match word {
+        "NULL" => Ok(Value::Absent),
+        _ => basic_value(alloc, word),
     }
 }
 
@@ -108,11 +131,24 @@ fn numbers(alloc: Global, words: &str) -> Result<List<u32>, Memory> {
     Ok(numbers)
 }
 
-fn type_of(value: &Value) -> NormalType {
+fn basic_type(value: &Value) -> NormalType {
     match value {
         Value::Int(_) => NormalType::Int,
         Value::Bool(_) => NormalType::Bool,
         _ => NormalType::Str,
+    }
+}
+
+fn option_of(alloc: Global, of: NormalType) -> Result<NormalType, Memory> {
+    Ok(NormalType::Opt(Boxed::new(alloc, of)?))
+}
+
+/// The type of a value; NULL is an option of an int.
+fn type_of(alloc: Global, value: &Value) -> Result<NormalType, Memory> {
+    match value {
+        Value::Absent => option_of(alloc, NormalType::Int),
+        Value::Present(held) => option_of(alloc, basic_type(held.get())),
+        plain => Ok(basic_type(plain)),
     }
 }
 
@@ -123,6 +159,14 @@ pub fn named_type(word: &str) -> NormalType {
         "bool" => NormalType::Bool,
         "string" => NormalType::Str,
         _ => NormalType::Page,
+    }
+}
+
+/// `int` or `int?`
+fn antiquote_type(alloc: Global, word: &str) -> Result<NormalType, Memory> {
+    match word.strip_suffix('?') {
+        Some(inside) => option_of(alloc, named_type(inside)),
+        None => Ok(named_type(word)),
     }
 }
 
@@ -178,7 +222,7 @@ impl World {
             "values" => self.take_row(rest)?,
             "key" => self.take_key(rest)?,
             "arg" => self.take_arg(rest)?,
-            "type" => self.next.push(Normal::Type(named_type(rest)))?,
+            "type" => self.take_type(rest)?,
             _ => return Ok(false),
         }
         Ok(true)
@@ -210,10 +254,16 @@ impl World {
         self.keys.push(key)
     }
 
+    fn take_type(&mut self, word: &str) -> Result<(), Memory> {
+        let of = antiquote_type(self.alloc, word)?;
+        self.next.push(Normal::Type(of))
+    }
+
     /// The value of an antiquote, which is of its type.
     fn take_arg(&mut self, word: &str) -> Result<(), Memory> {
         let value = value(self.alloc, word)?;
-        self.next.push(Normal::Type(type_of(&value)))?;
+        let of = type_of(self.alloc, &value)?;
+        self.next.push(Normal::Type(of))?;
         self.args.push(value)
     }
 }

@@ -1,5 +1,6 @@
 //! Why a call ends without its answer: want of memory, or a refusal of the program that is compiled.
-ghost use Rattle.std.specs.Prelude.{◌≡◌};
+ghost use Rattle.std.specs.Prelude.{◌≡◌, IsTrue};
+ghost use Rattle.ur_base.specs.Codes.{is_refusal_code};
 
 use crate::List;
 use std::alloc::{AllocError, AllocFailed};
@@ -36,13 +37,14 @@ pub struct Span {
 }
 
 /// Why a program is not compiled: the number of its code, as 2 for E02, where it stands, and two texts that say what
-/// was found and what was wanted.
+/// was found and what was wanted. The code is one of E01 to E20.
 #[derive(Debug, Drop)]
 pub struct Refusal {
     pub code: u8,
     pub span: Span,
     pub left: Text,
     pub right: Text,
+    pub ghost named: { IsTrue (is_refusal_code code) },
 }
 
 /// A refusal, or want of memory.

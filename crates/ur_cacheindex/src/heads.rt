@@ -157,5 +157,9 @@ fn copy_atom(alloc: Global, atom: &Atom) -> Result<Atom, Memory>
         Atom::Int(n) => Ok(Atom::Int(*n)),
         Atom::Bool(b) => Ok(Atom::Bool(*b)),
         Atom::Str(text) => Ok(Atom::Str(List::from_slice(alloc, text.as_slice())?)),
+        Atom::Null => Ok(Atom::Null),
+        Atom::SomeInt(n) => Ok(Atom::SomeInt(*n)),
+        Atom::SomeBool(b) => Ok(Atom::SomeBool(*b)),
+        Atom::SomeStr(text) => Ok(Atom::SomeStr(List::from_slice(alloc, text.as_slice())?)),
     }
 }

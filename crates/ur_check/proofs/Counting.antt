@@ -57,7 +57,8 @@ decls-keep most home (d ∷ ds) p q h =
     let b : (b : Bodies) × (bodies_out most d.form p.0 a.0 p.1 ≡ Some b) × (decls_out most home ds (a.0, b) ≡ Some q) = opened _ _ q a.2 in
     decls-keep most home ds (a.0, b.0) q b.2 ∙ decl-keeps most home d.form p.0 a.0 a.1
 
-pub modules-keep : (most n : ℕ) (names : List (List ℕ)) (modules : List Module) (p q : Checked) → modules_out most n names modules p ≡ Some q → fields_of q.0 ≡ fields_of p.0
+pub modules-keep : (most n : ℕ) (names : List (List ℕ)) (modules : List Module) (p q : Checked) → modules_out most n names modules p ≡ Some q →
+    fields_of q.0 ≡ fields_of p.0
 modules-keep most n [] modules p q h = ap (λ (z : Checked). fields_of z.0) (sym (some_of h))
 modules-keep most n (m ∷ names) [] p q h = ap (λ (z : Checked). fields_of z.0) (sym (some_of h))
 modules-keep most n (m ∷ names) (x ∷ modules) p q h =

@@ -25,7 +25,8 @@ use Rattle.ur_check.proofs.Counting.{modules-keep}
 
 -- ---- the whole
 
-project-so : (most : ℕ) (start : Checked) (names : List (List ℕ)) (modules : List Module) (signature : Option Signature) (p : Checked) (entries : List ℕ) → modules_out most 0 names modules start ≡ Some p → entries_out most p.0 (pred (length names)) signature ≡ Some entries →
+project-so : (most : ℕ) (start : Checked) (names : List (List ℕ)) (modules : List Module) (signature : Option Signature) (p : Checked) (entries : List ℕ) →
+    modules_out most 0 names modules start ≡ Some p → entries_out most p.0 (pred (length names)) signature ≡ Some entries →
     project_out most start names modules signature ≡ Some (p, entries)
 project-so most start names modules signature p entries e k = ap (option_and_then (λ p. option_map (ended p) (entries_out most p.0 (pred (length names)) signature))) e ∙ ap (option_map (ended p)) k
 
@@ -46,7 +47,8 @@ resolves names fields modules signature p q b c entries app sees none added es m
       kept = m.fields ∙ modules-keep 65536 0 names modules (begun fields) (a.0, bodies_in c) out;
     }
 
-pub checked : (names fields : List (List ℕ)) (modules : List Module) (signature : Option Signature) (app : Typed) → fault_of names modules signature ≡ None → ProjectIsKinded names modules signature → AreFieldNames modules fields → Resolves names fields modules signature app →
+pub checked : (names fields : List (List ℕ)) (modules : List Module) (signature : Option Signature) (app : Typed) → fault_of names modules signature ≡ None →
+    ProjectIsKinded names modules signature → AreFieldNames modules fields → Resolves names fields modules signature app →
     IsChecked 65536 names modules signature app
 checked names fields modules signature app named kinded are_fields found = record {
   named = named;
@@ -59,13 +61,15 @@ checked names fields modules signature app named kinded are_fields found = recor
 }
 
 -- what is checked is the source by the rules
-pub is-source : (names : List (List ℕ)) (modules : List Module) (signature : Option Signature) (app : Typed) → CheckedIsTyped → length names ≡ length modules → IsChecked 65536 names modules signature app → IsSourceWithin 65536 names modules signature app
+pub is-source : (names : List (List ℕ)) (modules : List Module) (signature : Option Signature) (app : Typed) → CheckedIsTyped →
+    length names ≡ length modules → IsChecked 65536 names modules signature app → IsSourceWithin 65536 names modules signature app
 is-source names modules signature app law l i = record { named = i.named; kinded = i.kinded; typed = law 65536 names modules signature app l i }
 
 -- ---- faults of types
 
 -- a fault of a signature, behind all modules
-pub signed-fault : (names : List (List ℕ)) (modules : List Module) (signature : Option Signature) (p q : Project) (b c : HeldBodies) (r : Refusal) → AddsModules p b names modules q c →
+pub signed-fault : (names : List (List ℕ)) (modules : List Module) (signature : Option Signature) (p q : Project) (b c : HeldBodies) (r : Refusal) →
+    AddsModules p b names modules q c →
     ((home : ℕ) (z : Sofar) → Sees q home z → (s : Signature) × (signature ≡ Some s) × EntriesHaveFault 65536 z r s.vals) → ProjectFaults p b names modules signature r
 signed-fault names modules signature p q b c r added fault z sees =
     let a = added z sees in
@@ -73,12 +77,14 @@ signed-fault names modules signature p q b c r added fault z sees =
     in_signature f.1 a.1 f.2
 
 -- a fault behind nothing
-pub begun-fault : (names fields : List (List ℕ)) (modules : List Module) (signature : Option Signature) (p : Project) (b : HeldBodies) (r : Refusal) → Sees p 0 (begun fields).0 → bodies_in b ≡ no_bodies → ProjectFaults p b names modules signature r →
+pub begun-fault : (names fields : List (List ℕ)) (modules : List Module) (signature : Option Signature) (p : Project) (b : HeldBodies) (r : Refusal) →
+    Sees p 0 (begun fields).0 → bodies_in b ≡ no_bodies → ProjectFaults p b names modules signature r →
     ProjectHasFault 65536 (begun fields) names modules signature r
 begun-fault names fields modules signature p b r sees none fault = subst (λ y. ProjectHasFault 65536 y names modules signature r) (begins fields b none) (fault (begun fields).0 sees)
 
 -- a fault of names, as it is told
-pub named-cause : (names : List (List ℕ)) (modules : List Module) (signature : Option Signature) (e : Stop) (result : Result Typed Stop) → IsErrAnd result (λ y. y ≡ e) → Told (Err e) (fault_of names modules signature) → IfRefused result (HasCause 65536 names modules signature)
+pub named-cause : (names : List (List ℕ)) (modules : List Module) (signature : Option Signature) (e : Stop) (result : Result Typed Stop) →
+    IsErrAnd result (λ y. y ≡ e) → Told (Err e) (fault_of names modules signature) → IfRefused result (HasCause 65536 names modules signature)
 named-cause names modules signature e (Ok a) i t = absurd i
 named-cause names modules signature e (Err (stop.Refused r)) i t = told-cause (fault_of names modules signature) refl (subst (λ z. Told (Err z) (fault_of names modules signature)) (sym i) t)
   where

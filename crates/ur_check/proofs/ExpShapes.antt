@@ -203,10 +203,12 @@ in-bind {u = u} {a = a} {a0 = a0} {b = b} {b0 = b0} g h0 h1 = ap of_exp (g ∙ (
 pub in-seq : {f : ExpForm} {a a0 : Exp} {b b0 : Exp} → f ≡ e.Seq a0 b0 → a ≡ a0 → b ≡ b0 → of_exp f ≡ of_written a ++ of_written b
 in-seq {a = a} {a0 = a0} {b = b} {b0 = b0} g h0 h1 = ap of_exp (g ∙ (ap (λ z. e.Seq z b0) (sym h0) ∙ ap (λ z. e.Seq a z) (sym h1))) ∙ seq-made a b
 
-pub in-if : {f : ExpForm} {a a0 : Exp} {b b0 : Exp} {c c0 : Exp} → f ≡ e.If a0 b0 c0 → a ≡ a0 → b ≡ b0 → c ≡ c0 → of_exp f ≡ of_written a ++ (of_written b ++ of_written c)
+pub in-if : {f : ExpForm} {a a0 : Exp} {b b0 : Exp} {c c0 : Exp} → f ≡ e.If a0 b0 c0 → a ≡ a0 → b ≡ b0 → c ≡ c0 →
+    of_exp f ≡ of_written a ++ (of_written b ++ of_written c)
 in-if {a = a} {a0 = a0} {b = b} {b0 = b0} {c = c} {c0 = c0} g h0 h1 h2 = ap of_exp (g ∙ (ap (λ z. e.If z b0 c0) (sym h0) ∙ ap (λ z. e.If a z c0) (sym h1) ∙ ap (λ z. e.If a b z) (sym h2))) ∙ if-made a b c
 
-pub in-lambda : {f : ExpForm} {ps ps0 : List LambdaParam} {a a0 : Exp} → f ≡ e.Lambda ps0 a0 → ps ≡ ps0 → a ≡ a0 → of_exp f ≡ flat_map of_lambda_param ps ++ of_written a
+pub in-lambda : {f : ExpForm} {ps ps0 : List LambdaParam} {a a0 : Exp} → f ≡ e.Lambda ps0 a0 → ps ≡ ps0 → a ≡ a0 →
+    of_exp f ≡ flat_map of_lambda_param ps ++ of_written a
 in-lambda {ps = ps} {ps0 = ps0} {a = a} {a0 = a0} g h0 h1 = ap of_exp (g ∙ (ap (λ z. e.Lambda z a0) (sym h0) ∙ ap (λ z. e.Lambda ps z) (sym h1))) ∙ lambda-made ps a
 
 pub in-case : {f : ExpForm} {a a0 : Exp} {bs bs0 : List Branch} → f ≡ e.Case a0 bs0 → a ≡ a0 → bs ≡ bs0 → of_exp f ≡ of_written a ++ flat_map of_branch bs
@@ -233,7 +235,8 @@ in-project {a = a} {a0 = a0} {n = n} g h0 = ap of_exp (g ∙ (ap (λ z. e.Projec
 pub in-record : {f : ExpForm} {fs fs0 : List Field} → f ≡ e.Record fs0 → fs ≡ fs0 → of_exp f ≡ flat_map of_value fs
 in-record {fs = fs} {fs0 = fs0} g h0 = ap of_exp (g ∙ (ap (λ z. e.Record z) (sym h0))) ∙ record-made fs
 
-pub in-xml : {f : ExpForm} {x : Xml} {ss ss0 : List Exp} {ts ts0 : List Exp} → f ≡ e.Xml x ss0 ts0 → ss ≡ ss0 → ts ≡ ts0 → of_exp f ≡ of_xml x ++ (flat_map of_written ss ++ flat_map of_written ts)
+pub in-xml : {f : ExpForm} {x : Xml} {ss ss0 : List Exp} {ts ts0 : List Exp} → f ≡ e.Xml x ss0 ts0 → ss ≡ ss0 → ts ≡ ts0 →
+    of_exp f ≡ of_xml x ++ (flat_map of_written ss ++ flat_map of_written ts)
 in-xml {x = x} {ss = ss} {ss0 = ss0} {ts = ts} {ts0 = ts0} g h0 h1 = ap of_exp (g ∙ (ap (λ z. e.Xml x z ts0) (sym h0) ∙ ap (λ z. e.Xml x ss z) (sym h1))) ∙ xml-made x ss ts
 
 pub in-let : {f : ExpForm} {vs vs0 : List LetVal} {a a0 : Exp} → f ≡ e.Let vs0 a0 → vs ≡ vs0 → a ≡ a0 → of_exp f ≡ flat_map of_val vs ++ of_written a
@@ -260,11 +263,14 @@ in-set {n = n} {a = a} {a0 = a0} g h0 = ap of_exp (g ∙ (ap (λ z. e.SetCookie 
 pub in-dml : {f : ExpForm} {c : SqlChange} {es es0 : List Exp} → f ≡ e.Dml c es0 → es ≡ es0 → of_exp f ≡ flat_map of_written es
 in-dml {c = c} {es = es} {es0 = es0} g h0 = ap of_exp (g ∙ (ap (λ z. e.Dml c z) (sym h0))) ∙ dml-made c es
 
-pub in-query : {f : ExpForm} {w : QueryWord} {q : SqlQuery} {es es0 : List Exp} → f ≡ e.Query w q es0 → es ≡ es0 → of_exp f ≡ of_query q ++ flat_map of_written es
+pub in-query : {f : ExpForm} {w : QueryWord} {q : SqlQuery} {es es0 : List Exp} → f ≡ e.Query w q es0 → es ≡ es0 →
+    of_exp f ≡ of_query q ++ flat_map of_written es
 in-query {w = w} {q = q} {es = es} {es0 = es0} g h0 = ap of_exp (g ∙ (ap (λ z. e.Query w q z) (sym h0))) ∙ query-made w q es
 
-pub in-each : {f : ExpForm} {q : SqlQuery} {es es0 : List Exp} {a a0 : Exp} → f ≡ e.QueryX q es0 a0 → es ≡ es0 → a ≡ a0 → of_exp f ≡ of_query q ++ (flat_map of_written es ++ of_written a)
+pub in-each : {f : ExpForm} {q : SqlQuery} {es es0 : List Exp} {a a0 : Exp} → f ≡ e.QueryX q es0 a0 → es ≡ es0 → a ≡ a0 →
+    of_exp f ≡ of_query q ++ (flat_map of_written es ++ of_written a)
 in-each {q = q} {es = es} {es0 = es0} {a = a} {a0 = a0} g h0 h1 = ap of_exp (g ∙ (ap (λ z. e.QueryX q z a0) (sym h0) ∙ ap (λ z. e.QueryX q es z) (sym h1))) ∙ each-made q es a
 
-pub in-fold : {f : ExpForm} {c : Con} {a a0 : Exp} {b b0 : Exp} {d : Con} → f ≡ e.Fold c a0 b0 d → a ≡ a0 → b ≡ b0 → of_exp f ≡ of_con c ++ (of_written a ++ (of_written b ++ of_con d))
+pub in-fold : {f : ExpForm} {c : Con} {a a0 : Exp} {b b0 : Exp} {d : Con} → f ≡ e.Fold c a0 b0 d → a ≡ a0 → b ≡ b0 →
+    of_exp f ≡ of_con c ++ (of_written a ++ (of_written b ++ of_con d))
 in-fold {c = c} {a = a} {a0 = a0} {b = b} {b0 = b0} {d = d} g h0 h1 = ap of_exp (g ∙ (ap (λ z. e.Fold c z b0 d) (sym h0) ∙ ap (λ z. e.Fold c a z d) (sym h1))) ∙ fold-made c a b d

@@ -23,7 +23,8 @@ slices-routed names w entries b r fields functions vals bodies f g v e h =
     subst (λ (o : List Exp). AreRoutes names w.env.fields (map function_in w.functions) entries (all_occurrences o) r.handlers.routes r.targets) (ap₂ (λ x y. x ++ y) v e)
     (subst₂ (λ (x : List (List ℕ)) (y : List HeldFunction). AreRoutes names x (map function_in y) entries (all_occurrences (vals ++ bodies)) r.handlers.routes r.targets) f g h)
 
-pub made-of : (names : List (List ℕ)) (p : Project) (entries : List ℕ) (b : HeldBodies) (r : Routes) (app : Typed) → IsSourceOf names p.world b r app → Routed names p.world entries b r → (home : ℕ) (z : Sofar) → Sees p home z → IsMadeOf names (z, bodies_in b) entries app
+pub made-of : (names : List (List ℕ)) (p : Project) (entries : List ℕ) (b : HeldBodies) (r : Routes) (app : Typed) → IsSourceOf names p.world b r app →
+    Routed names p.world entries b r → (home : ℕ) (z : Sofar) → Sees p home z → IsMadeOf names (z, bodies_in b) entries app
 made-of names p entries b r app i routes home z s =
     subst (λ (y : Sofar). IsMadeOf names (y, bodies_in b) entries app) (sym s.held) (record {
       modules = i.modules;
@@ -43,7 +44,9 @@ made-of names p entries b r app i routes home z s =
     })
 
 -- the fields that are not taken out stay
-pub is-source : (names : List (List ℕ)) (w v : Held) (b : HeldBodies) (r : Routes) (app : Typed) → v ≡ record w { vals = []; functions = [] } → app.modules ≡ names → app.names ≡ v.env.fields → app.datatypes ≡ v.datatypes → app.variants ≡ v.variants → app.schema ≡ v.schema → app.cookies ≡ v.cookie_kinds →
+pub is-source : (names : List (List ℕ)) (w v : Held) (b : HeldBodies) (r : Routes) (app : Typed) → v ≡ record w { vals = []; functions = [] } →
+    app.modules ≡ names → app.names ≡ v.env.fields → app.datatypes ≡ v.datatypes → app.variants ≡ v.variants → app.schema ≡ v.schema →
+    app.cookies ≡ v.cookie_kinds →
     map (λ x. x.of) app.vals ≡ w.vals → map (λ x. x.body) app.vals ≡ b.vals → map function_head app.functions ≡ map function_in w.functions → map (λ f. f.body) app.functions ≡ b.functions → map (λ q. Some q) app.queries ≡ b.sites.queries → map (λ u. Some u) app.changes ≡ b.sites.changes →
     app.handlers ≡ r.handlers → app.targets ≡ r.targets → IsSourceOf names w b r app
 is-source names w v b r app e modules fields datatypes variants schema cookies types sides heads bodies queries changes handlers targets = record {

@@ -40,10 +40,12 @@ ties : (x y : List ℕ) → bytes_eq x y ≡ eq_by_cmp (slice_cmp nat_cmp) x y
 ties x y = sym (is_eq-slice_cmp x y)
 
 -- names that are sorted, and of which each is kept once
-pub order-rises : (sorted once list : List (List ℕ)) → IsSorted (slice_cmp nat_cmp) sorted → IsFiltered (DiffersFromLast bytes_eq) [] sorted once → list ≡ once → AllPairs Rises list
+pub order-rises : (sorted once list : List (List ℕ)) → IsSorted (slice_cmp nat_cmp) sorted → IsFiltered (DiffersFromLast bytes_eq) [] sorted once →
+    list ≡ once → AllPairs Rises list
 order-rises sorted once list s f e = subst (AllPairs Rises) (sym (e ∙ dedup_is bytes_eq sorted once f)) (all-rise (dedup bytes_eq sorted) (IsStrictlySortedBy-dedup nat_list_cmp_total ties sorted s))
 
-pub order-same : (names sorted once list : List (List ℕ)) → IsPermutation names sorted → IsFiltered (DiffersFromLast bytes_eq) [] sorted once → list ≡ once → (x : List ℕ) → Contains list x ↔ Contains names x
+pub order-same : (names sorted once list : List (List ℕ)) → IsPermutation names sorted → IsFiltered (DiffersFromLast bytes_eq) [] sorted once → list ≡ once →
+    (x : List ℕ) → Contains list x ↔ Contains names x
 order-same names sorted once list p f e x =
     let is : list ≡ dedup bytes_eq sorted = e ∙ dedup_is bytes_eq sorted once f in (
       λ h. Contains-permutation sorted names x (IsPermutation-sym names sorted p) (Contains-from_dedup bytes_eq sorted x (subst (λ z. Contains z x) is h)),
@@ -51,5 +53,6 @@ order-same names sorted once list p f e x =
     )
 
 -- what occurs in one list occurs in another
-pub occurs-in : (list names all : List (List ℕ)) → names ≡ all → ((x : List ℕ) → Contains list x ↔ Contains names x) → (x : List ℕ) → Contains list x ↔ Contains all x
+pub occurs-in : (list names all : List (List ℕ)) → names ≡ all → ((x : List ℕ) → Contains list x ↔ Contains names x) → (x : List ℕ) →
+    Contains list x ↔ Contains all x
 occurs-in list names all e f x = subst (λ z. Contains list x ↔ Contains z x) e (f x)

@@ -22,5 +22,6 @@ element-made t bs xs =
     let row = row_of (xml.Element t bs xs) in
     ap (λ ms. of_tag t.field ++ ms) (parts-are row.0 row.1 ∙ ap (flat_map of_xml_part) (items_hidden-the_row-XmlPart-0 xs))
 
-pub in-element : {f : XmlForm} {t : Tag} {bs : List Attr} {xs ys : List XmlPart} → f ≡ xml.Element t bs xs → ys ≡ xs → of_xml_form f ≡ of_tag t.field ++ flat_map of_xml_part ys
+pub in-element : {f : XmlForm} {t : Tag} {bs : List Attr} {xs ys : List XmlPart} → f ≡ xml.Element t bs xs → ys ≡ xs →
+    of_xml_form f ≡ of_tag t.field ++ flat_map of_xml_part ys
 in-element {t = t} {bs = bs} {ys = ys} e g = ap of_xml_form (e ∙ ap (xml.Element t bs) (sym g)) ∙ element-made t bs ys

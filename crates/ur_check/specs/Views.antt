@@ -1,5 +1,6 @@
 -- What the code of the checker holds, as the definitions see it.
 use Rattle.std.specs.Prelude.{◌≡◌, ℕ, pred, length, List, ◌∷◌, Some, Option, map, codes, false, ◌++◌}
+use Rattle.ur_rows.specs.Nodes.{most_nodes}
 use Rattle.ur_base.specs.declared.refusal.Refusal.{Refusal}
 use Rattle.ur_syntax.specs.declared.decl.FunDef.{FunDef}
 use Rattle.ur_syntax.specs.declared.decl.Decl.{Decl}
@@ -40,16 +41,16 @@ SeesSome p = (home : ℕ) × (z : Sofar) × Sees p home z
 
 -- the head is that of the function
 abbrev pub HasHeading : Project → HeldHead → FunDef → Type 0
-HasHeading p head f = (home : ℕ) × (z : Sofar) × (h : Heading) × Sees p home z × (heading_out 65536 (names_at z.place) f ≡ Some h) × (h.head ≡ head_in head)
+HasHeading p head f = (home : ℕ) × (z : Sofar) × (h : Heading) × Sees p home z × (heading_out most_nodes (names_at z.place) f ≡ Some h) × (h.head ≡ head_in head)
 
 -- the functions stand behind so many others
 abbrev pub AreHeaded : Project → ℕ → List FunDef → Type 0
-AreHeaded p first fs = (home : ℕ) × (y : Sofar) × (z : Sofar) × Sees p home z × (headings_out 65536 home fs y ≡ Some z) × (first ≡ length y.functions)
+AreHeaded p first fs = (home : ℕ) × (y : Sofar) × (z : Sofar) × Sees p home z × (headings_out most_nodes home fs y ≡ Some z) × (first ≡ length y.functions)
 
 -- the right side of a `val` of that type has a fault, or is not static
 pub data RightSideTells (z : Sofar) (e : WrittenExp) (t : NormalType) (st : Sites) (r : Refusal) : Type 0 where
-  has_fault : HasFault (datatype_names z) (world_behind 65536 z) (top_scope z) st e.form (wants t) r → RightSideTells z e t st r
-  moves : {o : Out} → typed (world_behind 65536 z) e.form (top_scope z) st (wants t) ≡ Some o → is_static o.exp ≡ false →
+  has_fault : HasFault (datatype_names z) (world_behind most_nodes z) (top_scope z) st e.form (wants t) r → RightSideTells z e t st r
+  moves : {o : Out} → typed (world_behind most_nodes z) e.form (top_scope z) st (wants t) ≡ Some o → is_static o.exp ≡ false →
       TellsType (datatype_names z) r (not_so (codes "the right side of a val") (codes "a static expression")) → RightSideTells z e t st r
 
 -- ---- declarations
@@ -57,34 +58,34 @@ pub data RightSideTells (z : Sofar) (e : WrittenExp) (t : NormalType) (st : Site
 -- behind the declaration the project and the bodies are these
 abbrev pub Declares : Project → HeldBodies → DeclForm → Project → HeldBodies → Type 0
 Declares p b d q c = (home : ℕ) (z : Sofar) → Sees p home z →
-    (after : Sofar) × (decl_out 65536 home d z ≡ Some after) × (bodies_out 65536 d z after (bodies_in b) ≡ Some (bodies_in c)) × Sees q home after
+    (after : Sofar) × (decl_out most_nodes home d z ≡ Some after) × (bodies_out most_nodes d z after (bodies_in b) ≡ Some (bodies_in c)) × Sees q home after
 
 -- the declaration breaks a rule
 abbrev pub DeclHasFault : Project → HeldBodies → DeclForm → Refusal → Type 0
-DeclHasFault p b f r = (home : ℕ) (z : Sofar) → Sees p home z → (d : Decl) (ds : List Decl) → d.form ≡ f → DeclsHaveFault 65536 home r (d ∷ ds) (z, bodies_in b)
+DeclHasFault p b f r = (home : ℕ) (z : Sofar) → Sees p home z → (d : Decl) (ds : List Decl) → d.form ≡ f → DeclsHaveFault most_nodes home r (d ∷ ds) (z, bodies_in b)
 
 abbrev pub DeclaresAll : Project → HeldBodies → List Decl → Project → HeldBodies → Type 0
-DeclaresAll p b ds q c = (home : ℕ) (z : Sofar) → Sees p home z → (after : Sofar) × (decls_out 65536 home ds (z, bodies_in b) ≡ Some (after, bodies_in c)) × Sees q home after
+DeclaresAll p b ds q c = (home : ℕ) (z : Sofar) → Sees p home z → (after : Sofar) × (decls_out most_nodes home ds (z, bodies_in b) ≡ Some (after, bodies_in c)) × Sees q home after
 
 abbrev pub DeclsFault : Project → HeldBodies → List Decl → Refusal → Type 0
-DeclsFault p b ds r = (home : ℕ) (z : Sofar) → Sees p home z → DeclsHaveFault 65536 home r ds (z, bodies_in b)
+DeclsFault p b ds r = (home : ℕ) (z : Sofar) → Sees p home z → DeclsHaveFault most_nodes home r ds (z, bodies_in b)
 
 -- ---- modules
 
 abbrev pub AddsModule : Project → HeldBodies → ℕ → List ℕ → Module → Project → HeldBodies → Type 0
 AddsModule p b n m x q c = (home : ℕ) (z : Sofar) → Sees p home z →
-    (after : Sofar) × (decls_out 65536 n x.decls (entered m (z, bodies_in b)) ≡ Some (after, bodies_in c)) × Sees q n after
+    (after : Sofar) × (decls_out most_nodes n x.decls (entered m (z, bodies_in b)) ≡ Some (after, bodies_in c)) × Sees q n after
 
 abbrev pub ModuleHasFault : Project → HeldBodies → ℕ → List ℕ → Module → Refusal → Type 0
-ModuleHasFault p b n m x r = (home : ℕ) (z : Sofar) → Sees p home z → DeclsHaveFault 65536 n r x.decls (entered m (z, bodies_in b))
+ModuleHasFault p b n m x r = (home : ℕ) (z : Sofar) → Sees p home z → DeclsHaveFault most_nodes n r x.decls (entered m (z, bodies_in b))
 
 -- behind all modules, seen from the last of them
 abbrev pub AddsModules : Project → HeldBodies → List (List ℕ) → List Module → Project → HeldBodies → Type 0
 AddsModules p b names modules q c = (z : Sofar) → Sees p 0 z →
-    (after : Sofar) × (modules_out 65536 0 names modules (z, bodies_in b) ≡ Some (after, bodies_in c)) × Sees q (pred (length names)) after
+    (after : Sofar) × (modules_out most_nodes 0 names modules (z, bodies_in b) ≡ Some (after, bodies_in c)) × Sees q (pred (length names)) after
 
 abbrev pub ModulesFault : Project → HeldBodies → List (List ℕ) → List Module → Refusal → Type 0
-ModulesFault p b names modules r = (z : Sofar) → Sees p 0 z → ModulesHaveFault 65536 r 0 names modules (z, bodies_in b)
+ModulesFault p b names modules r = (z : Sofar) → Sees p 0 z → ModulesHaveFault most_nodes r 0 names modules (z, bodies_in b)
 
 -- ---- the source
 
@@ -112,15 +113,15 @@ Routed names w entries b r = AreRoutes names w.env.fields (map function_in w.fun
 
 -- the entries of what is declared
 abbrev pub EntersAll : Project → Option Signature → List ℕ → Type 0
-EntersAll q signature entries = (home : ℕ) (z : Sofar) → Sees q home z → entries_out 65536 z home signature ≡ Some entries
+EntersAll q signature entries = (home : ℕ) (z : Sofar) → Sees q home z → entries_out most_nodes z home signature ≡ Some entries
 
 abbrev pub ProjectFaults : Project → HeldBodies → List (List ℕ) → List Module → Option Signature → Refusal → Type 0
-ProjectFaults p b names modules signature r = (z : Sofar) → Sees p 0 z → ProjectHasFault 65536 (z, bodies_in b) names modules signature r
+ProjectFaults p b names modules signature r = (z : Sofar) → Sees p 0 z → ProjectHasFault most_nodes (z, bodies_in b) names modules signature r
 
 -- the source of a project whose names of fields are known
 pub record Resolves (names known : List (List ℕ)) (modules : List Module) (signature : Option Signature) (app : Typed) : Type 0 where
   pub behind : Checked
   pub entries : List ℕ
-  pub walked : project_out 65536 (begun known) names modules signature ≡ Some (behind, entries)
+  pub walked : project_out most_nodes (begun known) names modules signature ≡ Some (behind, entries)
   pub made : IsMadeOf names behind entries app
   pub kept : app.names ≡ known

@@ -1,5 +1,6 @@
 //! The bodies of functions and `val`s.
 ghost use Rattle.std.specs.Prelude.{◌≡◌, ◌+◌, ◌++◌, ℕ, true, Some, [], ◌∷◌, length, slice_get, IfOk, OnOk, IfSome};
+ghost use Rattle.ur_rows.specs.Nodes.{most_nodes};
 ghost use Rattle.ur_base.specs.Stopping.{IfRefused};
 ghost use Rattle.ur_check_scopes.specs.Views.{Stands, head_in};
 ghost use Rattle.ur_tree.specs.IsStatic as statics;
@@ -55,7 +56,7 @@ fn around_body<'a>(
     scope: &'a BodyScope,
     outside: &'a Locals<'a>,
 ) -> Around<'a>
-    ensures stands { (home : ℕ) (z : Sofar) (h : Heading) → Sees project.now home z → IsBodyScope scope.now place.now h → outside.now ≡ locals.Nothing → Stands result (world_behind 65536 z) (body_scope h) }
+    ensures stands { (home : ℕ) (z : Sofar) (h : Heading) → Sees project.now home z → IsBodyScope scope.now place.now h → outside.now ≡ locals.Nothing → Stands result (world_behind most_nodes z) (body_scope h) }
     ensures world { result.world.now ≡ project.now.world }
 {
     let within = within_body(project, place, scope, outside);
@@ -75,8 +76,8 @@ fn body(
     function: &FunDef,
 ) -> Result<Out, Stop>
     requires { HasHeading project.now head.now function.now }
-    ensures typed { IfOk result (λ o. (home : ℕ) (z : Sofar) (h : Heading) → Sees project.now home z → heading_out 65536 (names_at z.place) function.now ≡ Some h → h.head ≡ head_in head.now → walking.typed (world_behind 65536 z) function.now.body.form (body_scope h) (sites_in sites.old) (wants h.head.result) ≡ Some (out_in o sites.new)) }
-    ensures refused { IfRefused result (λ r. (home : ℕ) (z : Sofar) (h : Heading) → Sees project.now home z → heading_out 65536 (names_at z.place) function.now ≡ Some h → h.head ≡ head_in head.now → HasFault (datatype_names z) (world_behind 65536 z) (body_scope h) (sites_in sites.old) function.now.body.form (wants h.head.result) r) }
+    ensures typed { IfOk result (λ o. (home : ℕ) (z : Sofar) (h : Heading) → Sees project.now home z → heading_out most_nodes (names_at z.place) function.now ≡ Some h → h.head ≡ head_in head.now → walking.typed (world_behind most_nodes z) function.now.body.form (body_scope h) (sites_in sites.old) (wants h.head.result) ≡ Some (out_in o sites.new)) }
+    ensures refused { IfRefused result (λ r. (home : ℕ) (z : Sofar) (h : Heading) → Sees project.now home z → heading_out most_nodes (names_at z.place) function.now ≡ Some h → h.head ≡ head_in head.now → HasFault (datatype_names z) (world_behind most_nodes z) (body_scope h) (sites_in sites.old) function.now.body.form (wants h.head.result) r) }
 {
     let place = project.names.in_scope();
     let scope = body_scope(alloc, &place, head, function)?;
@@ -106,8 +107,8 @@ fn function_body(
     function: &FunDef,
 ) -> Result<(), Stop>
     requires { HasHeading project.now head.now function.now }
-    ensures ok { OnOk result ((home : ℕ) (z : Sofar) (h : Heading) → Sees project.now home z → heading_out 65536 (names_at z.place) function.now ≡ Some h → h.head ≡ head_in head.now → body_out 65536 z function.now (bodies_in bodies.old) h ≡ Some (bodies_in bodies.new)) }
-    ensures refused { IfRefused result (λ r. (home : ℕ) (z : Sofar) (h : Heading) → Sees project.now home z → heading_out 65536 (names_at z.place) function.now ≡ Some h → h.head ≡ head_in head.now → HasFault (datatype_names z) (world_behind 65536 z) (body_scope h) (sites_in bodies.old.sites) function.now.body.form (wants h.head.result) r) }
+    ensures ok { OnOk result ((home : ℕ) (z : Sofar) (h : Heading) → Sees project.now home z → heading_out most_nodes (names_at z.place) function.now ≡ Some h → h.head ≡ head_in head.now → body_out most_nodes z function.now (bodies_in bodies.old) h ≡ Some (bodies_in bodies.new)) }
+    ensures refused { IfRefused result (λ r. (home : ℕ) (z : Sofar) (h : Heading) → Sees project.now home z → heading_out most_nodes (names_at z.place) function.now ≡ Some h → h.head ≡ head_in head.now → HasFault (datatype_names z) (world_behind most_nodes z) (body_scope h) (sites_in bodies.old.sites) function.now.body.form (wants h.head.result) r) }
 {
     let out = body(alloc, project, &mut bodies.sites, head, function)?;
     with_function(bodies, out)?;
@@ -133,8 +134,8 @@ pub fn group_bodies(
     functions: &[FunDef],
 ) -> Result<(), Stop>
     requires { AreHeaded project.now first functions.now }
-    ensures ok { OnOk result ((home : ℕ) (y z : Sofar) → Sees project.now home z → headings_out 65536 home functions.now y ≡ Some z → first ≡ length y.functions → group_out 65536 z functions.now (bodies_in bodies.old) ≡ Some (bodies_in bodies.new)) }
-    ensures refused { IfRefused result (λ r. (home : ℕ) (y z : Sofar) → Sees project.now home z → headings_out 65536 home functions.now y ≡ Some z → first ≡ length y.functions → GroupHasFault 65536 z r functions.now (bodies_in bodies.old)) }
+    ensures ok { OnOk result ((home : ℕ) (y z : Sofar) → Sees project.now home z → headings_out most_nodes home functions.now y ≡ Some z → first ≡ length y.functions → group_out most_nodes z functions.now (bodies_in bodies.old) ≡ Some (bodies_in bodies.new)) }
+    ensures refused { IfRefused result (λ r. (home : ℕ) (y z : Sofar) → Sees project.now home z → headings_out most_nodes home functions.now y ≡ Some z → first ≡ length y.functions → GroupHasFault most_nodes z r functions.now (bodies_in bodies.old)) }
 {
     for i in 0..functions.len() {
         match function_behind(project, first, i) {
@@ -154,7 +155,7 @@ fn right_side(
     of: &NormalType,
 ) -> Result<Out, Stop>
     requires { SeesSome project.now }
-    ensures typed { IfOk result (λ o. (home : ℕ) (z : Sofar) → Sees project.now home z → walking.typed (world_behind 65536 z) e.now.form (top_scope z) (sites_in sites.old) (wants of.now) ≡ Some (out_in o sites.new)) }
+    ensures typed { IfOk result (λ o. (home : ℕ) (z : Sofar) → Sees project.now home z → walking.typed (world_behind most_nodes z) e.now.form (top_scope z) (sites_in sites.old) (wants of.now) ≡ Some (out_in o sites.new)) }
     ensures fixed { IfOk result (λ o. statics.is_static o.exp ≡ true) }
     ensures refused { IfRefused result (λ r. (home : ℕ) (z : Sofar) → Sees project.now home z → RightSideTells z e.now of.now (sites_in sites.old) r) }
 {
@@ -191,7 +192,7 @@ pub fn val_body(
     of: &NormalType,
 ) -> Result<(), Stop>
     requires { SeesSome project.now }
-    ensures ok { OnOk result ((home : ℕ) (z : Sofar) → Sees project.now home z → val_body_out 65536 z e.now.form (bodies_in bodies.old) of.now ≡ Some (bodies_in bodies.new)) }
+    ensures ok { OnOk result ((home : ℕ) (z : Sofar) → Sees project.now home z → val_body_out most_nodes z e.now.form (bodies_in bodies.old) of.now ≡ Some (bodies_in bodies.new)) }
     ensures refused { IfRefused result (λ r. (home : ℕ) (z : Sofar) → Sees project.now home z → RightSideTells z e.now of.now (sites_in bodies.old.sites) r) }
 {
     let out = right_side(alloc, project, &mut bodies.sites, e, of)?;

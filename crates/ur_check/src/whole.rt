@@ -1,6 +1,7 @@
 //! The whole check.
 ghost use Rattle.std.specs.Prelude.{◌≡◌, length, IfOk, OnOk};
 ghost use Rattle.std.specs.Option.{option_copied};
+ghost use Rattle.ur_rows.specs.Nodes.{most_nodes};
 ghost use Rattle.ur_base.specs.Stopping.{IfRefused};
 ghost use Rattle.ur_typed.specs.DeclFaults.{ProjectHasFault};
 ghost use Rattle.ur_typed.specs.Source.{begun, IsSourceWithin};
@@ -50,7 +51,7 @@ fn typed_source(
 ) -> Result<Typed, Stop>
     requires { length names.now ≡ length modules.now }
     ensures made { IfOk result (Resolves names.now fields modules.now (option_copied signature.entry)) }
-    ensures refused { IfRefused result (ProjectHasFault 65536 (begun fields) names.now modules.now (option_copied signature.entry)) }
+    ensures refused { IfRefused result (ProjectHasFault most_nodes (begun fields) names.now modules.now (option_copied signature.entry)) }
 {
     let mut project = nothing_declared(alloc, fields);
     let mut bodies = no_bodies(alloc);
@@ -68,8 +69,8 @@ pub fn check(
     signature: Option<&Signature>,
 ) -> Result<Typed, Stop>
     requires { length names.now ≡ length modules.now }
-    ensures source { IfOk result (IsSourceWithin 65536 names.now modules.now (option_copied signature.entry)) }
-    ensures refused { IfRefused result (HasCause 65536 names.now modules.now (option_copied signature.entry)) }
+    ensures source { IfOk result (IsSourceWithin most_nodes names.now modules.now (option_copied signature.entry)) }
+    ensures refused { IfRefused result (HasCause most_nodes names.now modules.now (option_copied signature.entry)) }
 {
     check_names(alloc, names, modules, signature)?;
     check_kinds(alloc, names, modules, signature)?;

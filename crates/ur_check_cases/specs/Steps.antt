@@ -1,9 +1,11 @@
 -- The step of a fold, read one parameter after the other, and what breaks the rules of a fold.
 use Rattle.std.specs.Prelude.{ℕ, ◌≡◌, ◌&&◌, not, ⊤, Bool, true, false, List, [], ◌∷◌, Option, Some, None, option_and_then, bytes_eq}
+use Rattle.ur_base.specs.declared.refusal.Refusal.{Refusal}
 use Rattle.ur_base.specs.declared.refusal.Stop.{Stop}
 use Rattle.ur_base.specs.declared.refusal.Stop.TheVariants as stop
 use Rattle.ur_syntax.specs.declared.kind.Kind.{Kind}
 use Rattle.ur_syntax.specs.declared.kind.Kind.TheVariants as kind
+use Rattle.ur_syntax.specs.declared.con.Con.{Con}
 use Rattle.ur_syntax.specs.declared.con.CField.{CField}
 use Rattle.ur_syntax.specs.declared.con.CField.TheVariants as con_field
 use Rattle.ur_syntax.specs.declared.con.FieldName.{FieldName}
@@ -15,8 +17,11 @@ use Rattle.ur_syntax.specs.declared.exp.LambdaParam.TheVariants as lambda_param
 use Rattle.ur_syntax.specs.declared.exp.Param.{Param as WrittenParam}
 use Rattle.ur_rows_reduce.specs.declared.count.Halt.{Halt}
 use Rattle.ur_rows_reduce.specs.declared.count.Halt.TheVariants as halt
-use Rattle.ur_check_scopes.specs.Views.{IsLarge}
+use Rattle.ur_check_scopes.specs.declared.around.Around.{Around}
+use Rattle.ur_check_scopes.specs.Views.{Stands, Refuses, IsLarge}
 use Rattle.ur_typed_rules.specs.Rules.{if_so}
+use Rattle.ur_typed_rules.specs.Scopes.{World, Scope}
+use Rattle.ur_typed.specs.Faults.{BreaksFoldRow}
 use Rattle.ur_typed.specs.Folds.{Step, is_bare_row, is_variable}
 use Rattle.ur_check_cases.specs.declared.steps.Step.{Step as HeldStep}
 
@@ -112,3 +117,7 @@ step_in s = record { nm = s.nm.now; t = s.t.now; rest = s.rest.now; acc = s.acc.
 abbrev pub TellsLarge : Halt → Stop → Type 0
 TellsLarge h (stop.Refused r) = (h ≡ halt.TooLarge) × IsLarge r
 TellsLarge h stop.Memory = ⊤
+
+-- what is written is no row, or none that may be folded over
+abbrev pub TellsFoldRow : Around → Con → Refusal → Type 0
+TellsFoldRow a c r = (w : World) (s : Scope) → Stands a w s → Refuses a.world.now.datatype_names (BreaksFoldRow a.world.now.datatype_names w s c) r

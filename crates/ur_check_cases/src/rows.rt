@@ -8,11 +8,10 @@ ghost use Rattle.ur_rows.specs.Types.{at_row};
 ghost use Rattle.ur_tree.specs.Env.{row_is_plain};
 ghost use Rattle.ur_typed_rules.specs.Scopes.{World as GhostWorld, Scope as GhostScope};
 ghost use Rattle.ur_typed_rules.specs.Rules.{written_row};
-ghost use Rattle.ur_typed.specs.Faults.{BreaksFoldRow};
-ghost use Rattle.ur_check_scopes.specs.Views.{Stands, Refuses, StopIs, IsLarge};
+ghost use Rattle.ur_check_scopes.specs.Views.{Stands, StopIs, IsLarge};
 ghost use Rattle.ur_tree.specs.Text as texts;
 ghost use Rattle.ur_typed_rules.specs.Faults as faults;
-ghost use Rattle.ur_check_cases.specs.Steps.{TellsLarge};
+ghost use Rattle.ur_check_cases.specs.Steps.{TellsFoldRow, TellsLarge};
 
 use std::alloc::Global;
 use ur_base::{List, Span, Stop, Text};
@@ -93,7 +92,7 @@ fn not_plain(alloc: Global, names: &[Text], span: Span, row: &[Part]) -> Stop
 pub fn fold_row(alloc: Global, around: &Around, con: &Con) -> Result<List<Part>, Stop>
     ensures row { IfOk result (λ row. (w : GhostWorld) (s : GhostScope) → Stands around.now w s → written_row w s con.now ≡ Some row) }
     ensures plain { IfOk result (λ row. row_is_plain row ≡ true) }
-    ensures refused { IfRefused result (λ r. (w : GhostWorld) (s : GhostScope) → Stands around.now w s → Refuses around.now.world.now.datatype_names (BreaksFoldRow around.now.world.now.datatype_names w s con.now) r) }
+    ensures refused { IfRefused result (TellsFoldRow around.now con.now) }
 {
     let row = row_at(alloc, around, con)?;
     if row_of_values(&row) {

@@ -43,7 +43,8 @@ use Rattle.ur_tree.specs.QueryRow.{query_row}
 use Rattle.ur_tree.specs.Places.{Sort, sort_of}
 use Rattle.ur_disjoint.proofs.Members.{In, in-contains}
 use Rattle.ur_sqltype.specs.Lists.{all_of, and_then}
-use Rattle.ur_sqltype.specs.Table.{type_kind}
+use Rattle.ur_sqltype.specs.Faults.{six_kinds}
+use Rattle.ur_sqltype.specs.Table.{column_type_kind}
 use Rattle.ur_sqltype.specs.Antiquotes.{found_kind}
 use Rattle.ur_sqltype.specs.Tables.{table_from, table_at, source_of, source_at, sources_of}
 use Rattle.ur_sqltype.specs.Query.{once_aliased, items_of, query_over, query_of}
@@ -78,13 +79,13 @@ pub ruleset types = (option-made, list-made, transaction-made, record-made, ask-
 
 -- ---- the types of antiquotes
 
-kind-found : (n : Normal) → found_kind n ≡ type_kind (as_type n)
+kind-found : (n : Normal) → found_kind n ≡ column_type_kind (as_type n)
 kind-found (normal.Type t) = refl
 kind-found (normal.Name l) = refl
 kind-found (normal.Row r) = refl
 kind-found (normal.Fn' k s c) = refl
 
-kinds-found : (ns : List Normal) → all_of found_kind ns ≡ all_of type_kind (map as_type ns)
+kinds-found : (ns : List Normal) → all_of found_kind ns ≡ all_of column_type_kind (map as_type ns)
 kinds-found [] = refl
 kinds-found (n ∷ ns) = ap₂ and_then (kind-found n) (kinds-found ns)
 
@@ -92,12 +93,14 @@ no-kind : {A : Type 0} (o : Option A) → is_some o ≡ false → o ≡ None
 no-kind None h = refl
 no-kind (Some a) h = cc
 
-no-kind-at : (ns : List Normal) (i : ℕ) (n : Normal) → i < length ns → n ≡ get_or ns i n → type_kind (as_type n) ≡ None → IsNoKind (map as_type ns) (as_type n)
+no-kind-at : (ns : List Normal) (i : ℕ) (n : Normal) → i < length ns → n ≡ get_or ns i n → column_type_kind (as_type n) ≡ None →
+    IsNoKind (map as_type ns) (as_type n)
 no-kind-at [] i n h e k = absurd (omega arith)
 no-kind-at (m ∷ ns) zero n h e k = subst (λ z. IsNoKind (as_type z ∷ map as_type ns) (as_type n)) e (this_kind k)
 no-kind-at (m ∷ ns) (suc i) n h e k = later_kind (no-kind-at ns i n (omega arith) e k)
 
-pub other-told : (names : List (List ℕ)) (ns : List Normal) (i : ℕ) (n : Normal) (s' : Stop) → i < length ns → n ≡ get_or ns i n → is_kind n ≡ false → StopIs names (misfit (type_text names (as_type n)) (codes "int, string or bool")) s' →
+pub other-told : (names : List (List ℕ)) (ns : List Normal) (i : ℕ) (n : Normal) (s' : Stop) → i < length ns → n ≡ get_or ns i n → is_kind n ≡ false →
+    StopIs names (misfit (type_text names (as_type n)) six_kinds) s' →
     IfRefused {A = Unit {0}} (Err s') (Refuses names (IsOtherKind names (map as_type ns)))
 other-told names ns i n (stop.Refused r) h e k t = (no_kind names (as_type n), other_kind (no-kind-at ns i n h e (sym (kind-found n) ∙ no-kind (found_kind n) k)), t)
 other-told names ns i n stop.Memory h e k t = tt

@@ -3,3 +3,4 @@ pub mod Runs
 pub mod Statements
 pub mod Targets
 pub mod Views
+pub mod Promises

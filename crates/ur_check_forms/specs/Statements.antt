@@ -15,7 +15,7 @@ use Rattle.ur_rows.specs.Normal.{nf}
 use Rattle.ur_rows.specs.Put.{as_type}
 use Rattle.ur_tree.specs.QueryRow.{query_row}
 use Rattle.ur_sqltype.specs.Lists.{all_of}
-use Rattle.ur_sqltype.specs.Table.{type_kind}
+use Rattle.ur_sqltype.specs.Table.{column_type_kind}
 use Rattle.ur_sqltype.specs.Antiquotes.{found_kind}
 use Rattle.ur_sqltype.specs.SqltypeFaults.{QueryHasFault, ChangeHasFault}
 use Rattle.ur_typed_rules.specs.Scopes.{World, Scope}
@@ -24,7 +24,7 @@ use Rattle.ur_typed_rules.specs.Faults.{Fault, as_refused, too_large, types_diff
 use Rattle.ur_typed.specs.Rules.{Sites, Antiquotes, query_at, with_query}
 use Rattle.ur_typed.specs.Causes.{IsNoKind, no_kind}
 
--- what is found of an antiquote is int, string or bool
+-- what is found of an antiquote is int, string, bool or an option of these
 abbrev pub is_kind : Normal → Bool
 is_kind n = is_some (found_kind n)
 
@@ -38,12 +38,14 @@ pub data IsOtherKind (names : List (List ℕ)) (ts : List NormalType) : Fault �
 -- a query with these antiquotes breaks its rules
 pub data BreaksQuery (names : List (List ℕ)) (w : World) (q : SqlQuery) (a : Antiquotes) : Fault → Type 0 where
   of_other_kind : {f : Fault} → IsOtherKind names a.types f → BreaksQuery names w q a f
-  of_its_own : {kinds : List ColumnKind} {r : Refusal} → all_of type_kind a.types ≡ Some kinds → QueryHasFault w.globals.home w.globals.tables w.fields kinds q r → BreaksQuery names w q a (as_refused r)
+  of_its_own : {kinds : List ColumnKind} {r : Refusal} → all_of column_type_kind a.types ≡ Some kinds →
+      QueryHasFault w.globals.home w.globals.tables w.fields kinds q r → BreaksQuery names w q a (as_refused r)
 
 -- a change with these antiquotes breaks its rules
 pub data BreaksChange (names : List (List ℕ)) (w : World) (u : SqlChange) (a : Antiquotes) : Fault → Type 0 where
   of_other_type : {f : Fault} → IsOtherKind names a.types f → BreaksChange names w u a f
-  of_change : {kinds : List ColumnKind} {r : Refusal} → all_of type_kind a.types ≡ Some kinds → ChangeHasFault w.globals.home w.globals.tables kinds u r → BreaksChange names w u a (as_refused r)
+  of_change : {kinds : List ColumnKind} {r : Refusal} → all_of column_type_kind a.types ≡ Some kinds →
+      ChangeHasFault w.globals.home w.globals.tables kinds u r → BreaksChange names w u a (as_refused r)
 
 -- The query stands for a core query, which takes its place among those that are numbered, and its answers have this row.
 pub record IsAsked (w : World) (q : SqlQuery) (a : Antiquotes) (at : ℕ) (row : List Part) (after : Sites) : Type 0 where

@@ -1,21 +1,17 @@
 //! What parts of XML give.
 ghost use Rattle.std.specs.Prelude.{◌≡◌, ◌++◌, true, false, [], IfOk, OnOk, Some};
 ghost use Rattle.std.specs.List.{list_all};
-ghost use Rattle.ur_base.specs.Shape.{Shape as GhostShape, count};
 ghost use Rattle.ur_base.specs.Stopping.{IfRefused};
-ghost use Rattle.ur_syntax.specs.declared.xml.XmlForm.{Row_of-XmlPart};
 ghost use Rattle.ur_values.specs.declared.value.Tag.TheVariants as tag;
 ghost use Rattle.ur_rows.specs.Made.{record_of};
 ghost use Rattle.ur_tree.specs.declared.exp.Markup.TheVariants as markup;
 ghost use Rattle.ur_typed_rules.specs.Tests.{same_type, are_apart};
 ghost use Rattle.ur_typed_rules.specs.Faults.{TellsType, types_differ};
-ghost use Rattle.ur_tree.specs.Places.{Place as GhostPlace, in_form};
-ghost use Rattle.ur_xmltype.specs.Tags as node;
 ghost use Rattle.ur_typed.specs.Rules.{Sites as GhostSites};
 ghost use Rattle.ur_typed.specs.Markups as markups;
-ghost use Rattle.ur_typed.specs.Markups.{Marked as GhostMarked, Literal as GhostLiteral};
-ghost use Rattle.ur_typed.specs.Faults.{BreaksNode};
+ghost use Rattle.ur_typed.specs.Markups.{Marked as GhostMarked};
 ghost use Rattle.ur_check_scopes.specs.Views.{Refuses, env_in};
+ghost use Rattle.ur_check_forms.specs.Promises.{TellsForm};
 ghost use Rattle.ur_check_forms.specs.Views.{records_in, marks_with, marked_with};
 ghost use Rattle.ur_check_forms.specs.Marking.{IsNotTaken, BreaksForm};
 
@@ -184,7 +180,7 @@ fn form_mark(alloc: Global, marks: List<Markup>) -> Result<Marked, Memory>
 /// A form with these parts: its fields are apart, and each button in it wants the record of them.
 pub fn form_out(alloc: Global, around: &Around, span: Span, inner: Marked) -> Result<Marked, Stop>
     ensures form { IfOk result (λ m. (st : GhostSites) → markups.form_out (env_in around.now.scope.cons).known (marked_with inner st) ≡ Some (marked_with m st)) }
-    ensures refused { IfRefused result (λ r. (l : GhostLiteral) (p : GhostPlace) (n : GhostShape) (parts : Row_of-XmlPart (count n)) (before after : GhostSites) → l.scope.env.known ≡ (env_in around.now.scope.cons).known → markups.parts_out l parts in_form before ≡ Some (marked_with inner after) → Refuses around.now.world.now.datatype_names (BreaksNode around.now.world.now.datatype_names l p (count n) parts before node.form) r) }
+    ensures refused { IfRefused result (TellsForm around.now inner) }
 {
     form_fits(alloc, around, span, &inner.row, inner.waiting.as_slice())?;
     let made = form_mark(alloc, inner.marks)?;

@@ -11,13 +11,15 @@ ghost use Rattle.ur_rows.specs.Types as types;
 ghost use Rattle.ur_tree.specs.Make as make;
 ghost use Rattle.ur_tree.specs.Scalars as scalars;
 ghost use Rattle.ur_typed_rules.specs.Names.{declared, name_of};
-ghost use Rattle.ur_typed_rules.specs.Scopes.{World as GhostWorld, Scope as GhostScope, Mode as GhostMode, wants};
+ghost use Rattle.ur_typed_rules.specs.Scopes.{World as GhostWorld, Scope as GhostScope, Mode as GhostMode};
 ghost use Rattle.ur_typed_rules.specs.Faults as faults;
 ghost use Rattle.ur_typed.specs.Rules as rules;
-ghost use Rattle.ur_typed.specs.Rules.{Sites as GhostSites, Out as GhostOut};
+ghost use Rattle.ur_typed.specs.Rules.{Sites as GhostSites};
 ghost use Rattle.ur_typed.specs.Causes.{Breaks, is_record};
-ghost use Rattle.ur_check_scopes.specs.Views.{Stands, Refuses, StopIs, key_in};
+ghost use Rattle.ur_check_rules.specs.Telling.{TellsAnywhere, TellsIn};
+ghost use Rattle.ur_check_scopes.specs.Views.{Stands, Refuses, StopIs};
 ghost use Rattle.ur_check_rules.specs.Views.{out_with};
+ghost use Rattle.ur_check_forms.specs.Promises.{GivesCookieSet};
 ghost use Rattle.ur_check_forms.specs.Runs.{IsUnknown, IsCookieValue, value_in, are_of_cookie};
 
 use std::alloc::Global;
@@ -25,6 +27,7 @@ use ur_base::{Boxed, Memory, Stop};
 use ur_check_rules::{Out, gives};
 use ur_check_scopes::{Around, key_of, key_text, not_so, seen, unknown};
 use ur_rows::{NormalType, boxed, unit};
+use ur_sqltype::kind_type;
 use ur_syntax::{DeclName, Exp as Written, ExpForm, Field, FieldName};
 use ur_tree::Exp;
 use ur_values::ColumnKind;
@@ -34,16 +37,6 @@ use ur_values::ColumnKind;
 pub struct CookieAt {
     pub number: u32,
     pub kind: ColumnKind,
-}
-
-pub fn kind_type(kind: ColumnKind) -> NormalType
-    ensures { result ≡ scalars.kind_type kind }
-{
-    match kind {
-        ColumnKind::Int => NormalType::Int,
-        ColumnKind::Str => NormalType::Str,
-        ColumnKind::Bool => NormalType::Bool,
-    }
 }
 
 #[tactic(auto, using(crate::proofs::Running::types))]
@@ -75,7 +68,7 @@ fn no_name(alloc: Global, name: &DeclName) -> Stop
 /// The number of the sequence that is named so.
 fn sequence_named(alloc: Global, around: &Around, name: &DeclName) -> Result<u32, Stop>
     ensures number { IfOk result (λ n. (w : GhostWorld) (s : GhostScope) → Stands around.now w s → declared w.globals (name_of name.now) w.globals.sequences ≡ Some n) }
-    ensures refused { IfRefused result (λ r. (w : GhostWorld) (s : GhostScope) → Stands around.now w s → Refuses around.now.world.now.datatype_names (IsUnknown w w.globals.sequences name.now) r) }
+    ensures refused { IfRefused result (TellsIn around.now (λ _ w s. IsUnknown w w.globals.sequences name.now)) }
 {
     let key = key_of(name);
     let home = around.world.env.home.as_slice();
@@ -88,7 +81,7 @@ fn sequence_named(alloc: Global, around: &Around, name: &DeclName) -> Result<u32
 /// The number of the cookie that is named so.
 fn cookie_named(alloc: Global, around: &Around, name: &DeclName) -> Result<u32, Stop>
     ensures number { IfOk result (λ n. (w : GhostWorld) (s : GhostScope) → Stands around.now w s → declared w.globals (name_of name.now) w.globals.cookies ≡ Some n) }
-    ensures refused { IfRefused result (λ r. (w : GhostWorld) (s : GhostScope) → Stands around.now w s → Refuses around.now.world.now.datatype_names (IsUnknown w w.globals.cookies name.now) r) }
+    ensures refused { IfRefused result (TellsIn around.now (λ _ w s. IsUnknown w w.globals.cookies name.now)) }
 {
     let key = key_of(name);
     let home = around.world.env.home.as_slice();
@@ -108,7 +101,7 @@ fn has_sequence(around: &Around, number: u32) -> bool
 /// `nextval s`.
 pub fn next_out(alloc: Global, around: &Around, name: &DeclName) -> Result<Out, Stop>
     ensures next { IfOk result (λ o. (w : GhostWorld) (s : GhostScope) (st : GhostSites) → Stands around.now w s → rules.next_out w st name.now ≡ Some (out_with o st)) }
-    ensures refused { IfRefused result (λ r. (w : GhostWorld) (s : GhostScope) (st : GhostSites) (m : GhostMode) → Stands around.now w s → Refuses around.now.world.now.datatype_names (Breaks around.now.world.now.datatype_names w s st (form.Nextval name.now) m) r) }
+    ensures refused { IfRefused result (TellsAnywhere around.now (λ names w s st m. Breaks names w s st (form.Nextval name.now) m)) }
 {
     let number = sequence_named(alloc, around, name)?;
     if !has_sequence(around, number) {
@@ -122,7 +115,7 @@ pub fn next_out(alloc: Global, around: &Around, name: &DeclName) -> Result<Out, 
 /// The cookie that is named so.
 pub fn cookie_at(alloc: Global, around: &Around, name: &DeclName) -> Result<CookieAt, Stop>
     ensures cookie { IfOk result (λ c. (w : GhostWorld) (s : GhostScope) → Stands around.now w s → rules.cookie_at w name.now ≡ Some (c.number, c.kind)) }
-    ensures refused { IfRefused result (λ r. (w : GhostWorld) (s : GhostScope) → Stands around.now w s → Refuses around.now.world.now.datatype_names (IsUnknown w w.globals.cookies name.now) r) }
+    ensures refused { IfRefused result (TellsIn around.now (λ _ w s. IsUnknown w w.globals.cookies name.now)) }
 {
     let number = cookie_named(alloc, around, name)?;
     match around.world.cookie_kinds.get(number as usize) {
@@ -137,10 +130,11 @@ pub fn cookie_at(alloc: Global, around: &Around, name: &DeclName) -> Result<Cook
 /// `getCookie c`.
 pub fn get_cookie_out(alloc: Global, around: &Around, name: &DeclName) -> Result<Out, Stop>
     ensures cookie { IfOk result (λ o. (w : GhostWorld) (s : GhostScope) (st : GhostSites) → Stands around.now w s → rules.get_cookie_out w st name.now ≡ Some (out_with o st)) }
-    ensures refused { IfRefused result (λ r. (w : GhostWorld) (s : GhostScope) (st : GhostSites) (m : GhostMode) → Stands around.now w s → Refuses around.now.world.now.datatype_names (Breaks around.now.world.now.datatype_names w s st (form.GetCookie name.now) m) r) }
+    ensures refused { IfRefused result (TellsAnywhere around.now (λ names w s st m. Breaks names w s st (form.GetCookie name.now) m)) }
 {
     let cookie = cookie_at(alloc, around, name)?;
-    let option = option_of(alloc, kind_type(cookie.kind))?;
+    let inner = kind_type(alloc, cookie.kind)?;
+    let option = option_of(alloc, inner)?;
     let of = transaction_of(alloc, option)?;
     let made = gives(alloc, of, Exp::GetCookie(cookie.number))?;
     Ok(made)
@@ -155,7 +149,7 @@ fn set_cookie_of(alloc: Global, number: u32, value: Boxed<Exp>) -> Result<Boxed<
 
 /// `setCookie c {Value = e, Expires = None, Secure = False}`.
 pub fn set_cookie_out(alloc: Global, cookie: CookieAt, value: Out) -> Result<Out, Memory>
-    ensures { IfOk result (λ o. (w : GhostWorld) (x : GhostName) (before after : GhostSites) (a : GhostSites → GhostMode → Option GhostOut) → rules.cookie_at w x ≡ Some (cookie.number, cookie.kind) → a before (wants (scalars.kind_type cookie.kind)) ≡ Some (out_with value after) → rules.set_cookie_out w before x a ≡ Some (out_with o after)) }
+    ensures { IfOk result (GivesCookieSet cookie value) }
 {
     let of = transaction_of(alloc, unit(alloc))?;
     let exp = set_cookie_of(alloc, cookie.number, value.exp)?;

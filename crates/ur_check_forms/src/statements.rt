@@ -1,15 +1,8 @@
 //! Queries and changes.
 ghost use Rattle.std.specs.Prelude.{◌≡◌, ℕ, length, is_some, true, [], ◌∷◌, List as GhostList, OnOk, IfOk, Some, Option, map, codes};
 ghost use Rattle.std.specs.Option.{option_copied};
-ghost use Rattle.ur_base.specs.Shape.{Shape as GhostShape, count};
 ghost use Rattle.ur_base.specs.Stopping.{IfRefused};
-ghost use Rattle.ur_base.specs.declared.refusal.Span.{Span as GhostSpan};
-ghost use Rattle.ur_syntax.specs.declared.sql.SqlQuery.{SqlQuery as GhostQuery};
-ghost use Rattle.ur_syntax.specs.declared.exp.Binder.{Binder as GhostBinder};
-ghost use Rattle.ur_syntax.specs.declared.exp.LambdaParam.{LambdaParam as GhostParam};
 ghost use Rattle.ur_syntax.specs.declared.exp.LambdaParam.TheVariants as lambda_param;
-ghost use Rattle.ur_syntax.specs.declared.exp.ExpForm.{ExpForm as GhostForm, Row_of-Exp, end_of-Exp as alone, more_of-Exp as its};
-ghost use Rattle.ur_syntax.specs.declared.exp.ExpForm.TheVariants as form;
 ghost use Rattle.ur_rows.specs.declared.normal.Part.{Part as GhostPart};
 ghost use Rattle.ur_rows.specs.Put.{as_type};
 ghost use Rattle.ur_rows.specs.Made.{record_of};
@@ -20,15 +13,17 @@ ghost use Rattle.ur_tree.specs.Typing as typing;
 ghost use Rattle.ur_tree.specs.Places.{sort_of};
 ghost use Rattle.ur_tree.specs.QueryRow.{query_row};
 ghost use Rattle.ur_tree.specs.Text as texts;
+ghost use Rattle.ur_sqltype.specs.Faults.{six_kinds};
 ghost use Rattle.ur_typed_rules.specs.Scopes.{World as GhostWorld, Scope as GhostScope, Mode as GhostMode, of_transaction, within_binder};
 ghost use Rattle.ur_typed_rules.specs.Faults as faults;
 ghost use Rattle.ur_typed.specs.Rules as rules;
-ghost use Rattle.ur_typed.specs.Rules.{Sites as GhostSites, Out as GhostOut, Antiquotes as GhostAntiquotes};
-ghost use Rattle.ur_typed.specs.Walking.{typed, antiquotes_walk};
+ghost use Rattle.ur_typed.specs.Rules.{Sites as GhostSites};
+ghost use Rattle.ur_typed.specs.Walking.{typed};
 ghost use Rattle.ur_typed.specs.Faults.{BreaksRowFunction};
-ghost use Rattle.ur_typed.specs.Causes.{Breaks};
+ghost use Rattle.ur_check_rules.specs.Telling.{TellsBehind, TellsIn};
 ghost use Rattle.ur_check_scopes.specs.Views.{Stands, Refuses, StopIs};
 ghost use Rattle.ur_check_rules.specs.Views.{sites_in, out_with, args_with};
+ghost use Rattle.ur_check_forms.specs.Promises.{GivesAsked, GivesWritten, TellsWritten, GivesEach, TellsEach};
 ghost use Rattle.ur_check_forms.specs.Views.{antiquotes_with};
 ghost use Rattle.ur_check_forms.specs.Statements.{is_kind, are_kinds, IsOtherKind, BreaksQuery, BreaksChange, IsAsked, IsRowType, BreaksRowType, only};
 
@@ -40,6 +35,7 @@ use ur_check_rules::{Out, Sites, each_of};
 use ur_check_scopes::{Around, misfit, normal_at, not_of_type, not_so, types_differ};
 use ur_rows::{Normal, NormalType, Part, as_type, boxed, unit};
 use ur_sql::{Change, Query};
+use ur_sqltype::column_type_kind;
 use ur_sqltype_statements::{TypedChange, TypedQuery, type_change, type_query};
 use ur_syntax::{Binder, Con, LambdaParam, Param, QueryWord, SqlChange, SqlQuery};
 use ur_terms::AnswerForm;
@@ -107,10 +103,10 @@ fn is_kind(of: &Normal) -> bool
     ensures { result ≡ is_kind of.now }
 {
     match of {
-        Normal::Type(NormalType::Int) => true,
-        Normal::Type(NormalType::Str) => true,
-        Normal::Type(NormalType::Bool) => true,
-        _ => false,
+        Normal::Type(t) => column_type_kind(t).is_some(),
+        Normal::Name(_) => false,
+        Normal::Row(_) => false,
+        Normal::Fn(_, _) => false,
     }
 }
 
@@ -127,18 +123,23 @@ fn text_of(alloc: Global, names: &[Text], of: &Normal) -> Result<Text, Memory>
 }
 
 fn no_kind(alloc: Global, names: &[Text], span: Option<&Span>, of: &Normal) -> Stop
-    ensures { StopIs names.now (faults.misfit (texts.type_text names.now (as_type of.now)) (codes "int, string or bool")) result }
+    ensures { StopIs names.now (faults.misfit (texts.type_text names.now (as_type of.now)) six_kinds) result }
 {
     match span {
         Some(at) => match text_of(alloc, names, of) {
-            Ok(text) => misfit(alloc, *at, text.as_slice(), b"int, string or bool"),
+            Ok(text) => misfit(
+                alloc,
+                *at,
+                text.as_slice(),
+                b"int, string, bool or an option of these",
+            ),
             Err(_want) => Stop::Memory,
         },
         None => Stop::Memory,
     }
 }
 
-/// Each antiquote is int, string or bool.
+/// Each antiquote is int, string, bool or an option of these.
 fn are_kinds(alloc: Global, names: &[Text], types: &[Normal], spans: &[Span]) -> Result<(), Stop>
     ensures ok { OnOk result (are_kinds types.now ≡ true) }
     ensures refused { IfRefused result (Refuses names.now (IsOtherKind names.now (map as_type types.now))) }
@@ -160,7 +161,7 @@ fn typed_query(
     antiquotes: &Antiquotes,
 ) -> Result<TypedQuery, Stop>
     ensures typed { IfOk result (λ t. (w : GhostWorld) (s : GhostScope) (st : GhostSites) → Stands around.now w s → (rules.query_at w query.now (antiquotes_with antiquotes.now st) ≡ Some t.core) × (t.row ≡ query_row w.fields t.core)) }
-    ensures refused { IfRefused result (λ r. (w : GhostWorld) (s : GhostScope) (st : GhostSites) → Stands around.now w s → Refuses around.now.world.now.datatype_names (BreaksQuery around.now.world.now.datatype_names w query.now (antiquotes_with antiquotes.now st)) r) }
+    ensures refused { IfRefused result (TellsBehind around.now (λ names w s st. BreaksQuery names w query.now (antiquotes_with antiquotes.now st))) }
 {
     let world = around.world;
     let names = world.datatype_names.as_slice();
@@ -180,7 +181,7 @@ pub fn query_at(
     antiquotes: &Antiquotes,
 ) -> Result<List<Part>, Stop>
     ensures asked { IfOk result (λ row. (w : GhostWorld) (s : GhostScope) → Stands around.now w s → IsAsked w query.now (antiquotes_with antiquotes.now (sites_in sites.old)) at row (sites_in sites.new)) }
-    ensures refused { IfRefused result (λ r. (w : GhostWorld) (s : GhostScope) (st : GhostSites) → Stands around.now w s → Refuses around.now.world.now.datatype_names (BreaksQuery around.now.world.now.datatype_names w query.now (antiquotes_with antiquotes.now st)) r) }
+    ensures refused { IfRefused result (TellsBehind around.now (λ names w s st. BreaksQuery names w query.now (antiquotes_with antiquotes.now st))) }
 {
     let typed = typed_query(alloc, around, query, antiquotes)?;
     let TypedQuery { core, row, .. } = typed;
@@ -238,7 +239,7 @@ pub fn ask_out(
     row: List<Part>,
     antiquotes: Antiquotes,
 ) -> Result<Out, Memory>
-    ensures { IfOk result (λ o. (w : GhostWorld) (before between after : GhostSites) (q : GhostQuery) (args : GhostSites → Option GhostAntiquotes) → at ≡ length before.queries → args (rules.with_query_slot before) ≡ Some (antiquotes_with antiquotes between) → IsAsked w q (antiquotes_with antiquotes between) at row after → rules.ask_out w before how q args ≡ Some (out_with o after)) }
+    ensures { IfOk result (GivesAsked how at row antiquotes) }
 {
     let form = answer_form(how);
     let answer = answer_type(alloc, form, row)?;
@@ -255,7 +256,7 @@ fn typed_change(
     antiquotes: &Antiquotes,
 ) -> Result<TypedChange, Stop>
     ensures typed { IfOk result (λ t. (w : GhostWorld) (s : GhostScope) (st : GhostSites) → Stands around.now w s → rules.change_at w change.now (antiquotes_with antiquotes.now st) ≡ Some t.core) }
-    ensures refused { IfRefused result (λ r. (w : GhostWorld) (s : GhostScope) (st : GhostSites) → Stands around.now w s → Refuses around.now.world.now.datatype_names (BreaksChange around.now.world.now.datatype_names w change.now (antiquotes_with antiquotes.now st)) r) }
+    ensures refused { IfRefused result (TellsBehind around.now (λ names w s st. BreaksChange names w change.now (antiquotes_with antiquotes.now st))) }
 {
     let world = around.world;
     let names = world.datatype_names.as_slice();
@@ -282,8 +283,8 @@ pub fn write_out(
     change: &SqlChange,
     antiquotes: Antiquotes,
 ) -> Result<Out, Stop>
-    ensures written { IfOk result (λ o. (w : GhostWorld) (s : GhostScope) (before : GhostSites) (args : GhostSites → Option GhostAntiquotes) → Stands around.now w s → at ≡ length before.changes → args (rules.with_change_slot before) ≡ Some (antiquotes_with antiquotes (sites_in sites.old)) → rules.write_out w before change.now args ≡ Some (out_with o (sites_in sites.new))) }
-    ensures refused { IfRefused result (λ r. (w : GhostWorld) (s : GhostScope) (before : GhostSites) (m : GhostMode) (n : GhostShape) (args : Row_of-Exp (count n)) → Stands around.now w s → antiquotes_walk w args s (rules.with_change_slot before) ≡ Some (antiquotes_with antiquotes (sites_in sites.old)) → Refuses around.now.world.now.datatype_names (Breaks around.now.world.now.datatype_names w s before (form.Dml' change.now n args) m) r) }
+    ensures written { IfOk result (GivesWritten around.now at change.now antiquotes (sites_in sites.old) (sites_in sites.new)) }
+    ensures refused { IfRefused result (TellsWritten around.now change.now antiquotes (sites_in sites.old)) }
 {
     let typed = typed_change(alloc, around, change, &antiquotes)?;
     keep_change(sites, at, typed.core)?;
@@ -300,7 +301,7 @@ fn other_function(alloc: Global, span: Span) -> Stop
 /// The type of the row function's variable is that of the answer's records.
 fn is_row_type(alloc: Global, around: &Around, con: &Con, whole: &NormalType) -> Result<(), Stop>
     ensures ok { OnOk result ((w : GhostWorld) (s : GhostScope) → Stands around.now w s → IsRowType w s con.now whole.now) }
-    ensures refused { IfRefused result (λ r. (w : GhostWorld) (s : GhostScope) → Stands around.now w s → Refuses around.now.world.now.datatype_names (BreaksRowType around.now.world.now.datatype_names w s con.now whole.now) r) }
+    ensures refused { IfRefused result (TellsIn around.now (λ names w s. BreaksRowType names w s con.now whole.now)) }
 {
     let form = normal_at(alloc, &around.scope.cons, con)?;
     let of = as_type(alloc, form);
@@ -389,8 +390,8 @@ pub fn each_out(
     antiquotes: Antiquotes,
     body: Out,
 ) -> Result<Out, Stop>
-    ensures each { IfOk result (λ o. (w : GhostWorld) (before between middle after : GhostSites) (m : GhostMode) (q : GhostQuery) (row : GhostList GhostPart) (args : GhostSites → Option GhostAntiquotes) (walk : GhostList GhostPart → GhostSites → GhostMode → Option GhostOut) → at ≡ length before.queries → args (rules.with_query_slot before) ≡ Some (antiquotes_with antiquotes between) → IsAsked w q (antiquotes_with antiquotes between) at row middle → walk row middle (of_transaction m) ≡ Some (out_with body after) → rules.each_out w before m q args walk ≡ Some (out_with o after)) }
-    ensures refused { IfRefused result (λ r. (w : GhostWorld) (s : GhostScope) (before between middle after : GhostSites) (m : GhostMode) (q : GhostQuery) (row : GhostList GhostPart) (n : GhostShape) (args : Row_of-Exp (count n)) (p t : GhostSpan) (params : GhostList GhostParam) (x : GhostBinder) (y : GhostForm) → at ≡ length before.queries → antiquotes_walk w args s (rules.with_query_slot before) ≡ Some (antiquotes_with antiquotes between) → IsAsked w q (antiquotes_with antiquotes between) at row middle → rules.row_param w s row params ≡ Some x → typed w y (within_binder x (record_of row) s) middle (of_transaction m) ≡ Some (out_with body after) → Refuses around.now.world.now.datatype_names (Breaks around.now.world.now.datatype_names w s before (form.QueryX' q n args tt (its p (form.Lambda' params tt (its t y alone)) alone)) m) r) }
+    ensures each { IfOk result (GivesEach at antiquotes body) }
+    ensures refused { IfRefused result (TellsEach around.now at antiquotes body) }
 {
     if !is_xml(&body.of) {
         let names = around.world.datatype_names.as_slice();

@@ -8,7 +8,8 @@ ghost use Rattle.ur_typed_rules.specs.Scopes.{World as GhostWorld, Scope as Ghos
 ghost use Rattle.ur_typed_rules.specs.Faults.{TellsType, not_so};
 ghost use Rattle.ur_typed.specs.Faults as faults;
 ghost use Rattle.ur_typed.specs.Markups.{page_params};
-ghost use Rattle.ur_check_scopes.specs.Views.{Stands, Refuses, StopIs, head_in};
+ghost use Rattle.ur_check_rules.specs.Telling.{TellsIn};
+ghost use Rattle.ur_check_scopes.specs.Views.{Stands, StopIs, head_in};
 ghost use Rattle.ur_check_forms.specs.Targets.{IsLink, IsAction, IsNoPage, BreaksLink, BreaksAction, Takes, is_whole_page};
 
 use std::alloc::Global;
@@ -148,7 +149,7 @@ fn page_of<'a>(
     number: u32,
 ) -> Result<&'a Head, Stop>
     ensures page { IfOk result (λ h. (w : GhostWorld) (s : GhostScope) → Stands around.now w s → page_params w.declared number ≡ Some (types_of h.now.params)) }
-    ensures refused { IfRefused result (λ r. (w : GhostWorld) (s : GhostScope) → Stands around.now w s → Refuses around.now.world.now.datatype_names (IsNoPage w.declared number word.now) r) }
+    ensures refused { IfRefused result (TellsIn around.now (λ _ w s. IsNoPage w.declared number word.now)) }
 {
     match function_at(around.world, number) {
         Some(head) => {
@@ -164,7 +165,7 @@ fn page_of<'a>(
 fn link_to(alloc: Global, around: &Around, span: Span, number: u32) -> Result<Target, Stop>
     ensures number { IfOk result (λ t. t.number ≡ number) }
     ensures target { IfOk result (λ t. (w : GhostWorld) (s : GhostScope) → Stands around.now w s → IsLink w.declared t) }
-    ensures refused { IfRefused result (λ r. (w : GhostWorld) (s : GhostScope) → Stands around.now w s → Refuses around.now.world.now.datatype_names (BreaksLink w.declared (Some number)) r) }
+    ensures refused { IfRefused result (TellsIn around.now (λ _ w s. BreaksLink w.declared (Some number))) }
 {
     let head = page_of(alloc, around, span, b"a link", number)?;
     let params = head.params.as_slice();
@@ -188,7 +189,7 @@ pub fn link_types(
 ) -> Result<Target, Stop>
     ensures number { IfOk result (λ t. found ≡ Some t.number) }
     ensures target { IfOk result (λ t. (w : GhostWorld) (s : GhostScope) → Stands around.now w s → IsLink w.declared t) }
-    ensures refused { IfRefused result (λ r. (w : GhostWorld) (s : GhostScope) → Stands around.now w s → Refuses around.now.world.now.datatype_names (BreaksLink w.declared found) r) }
+    ensures refused { IfRefused result (TellsIn around.now (λ _ w s. BreaksLink w.declared found)) }
 {
     match found {
         Some(number) => link_to(alloc, around, span, number),
@@ -222,7 +223,7 @@ fn acting(
 fn action_on(alloc: Global, around: &Around, span: Span, number: u32) -> Result<Target, Stop>
     ensures number { IfOk result (λ t. t.number ≡ number) }
     ensures target { IfOk result (λ t. (w : GhostWorld) (s : GhostScope) → Stands around.now w s → IsAction w.declared t) }
-    ensures refused { IfRefused result (λ r. (w : GhostWorld) (s : GhostScope) → Stands around.now w s → Refuses around.now.world.now.datatype_names (BreaksAction w.declared (Some number)) r) }
+    ensures refused { IfRefused result (TellsIn around.now (λ _ w s. BreaksAction w.declared (Some number))) }
 {
     let head = page_of(alloc, around, span, b"an action", number)?;
     match head.params.as_slice().split_last() {
@@ -240,7 +241,7 @@ pub fn action_types(
 ) -> Result<Target, Stop>
     ensures number { IfOk result (λ t. found ≡ Some t.number) }
     ensures target { IfOk result (λ t. (w : GhostWorld) (s : GhostScope) → Stands around.now w s → IsAction w.declared t) }
-    ensures refused { IfRefused result (λ r. (w : GhostWorld) (s : GhostScope) → Stands around.now w s → Refuses around.now.world.now.datatype_names (BreaksAction w.declared found) r) }
+    ensures refused { IfRefused result (TellsIn around.now (λ _ w s. BreaksAction w.declared found)) }
 {
     match found {
         Some(number) => action_on(alloc, around, span, number),

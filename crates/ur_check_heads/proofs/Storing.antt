@@ -21,7 +21,8 @@ use Rattle.ur_typed_rules.specs.Faults.{Fault, unknown, twice, mismatch, not_apa
 use Rattle.ur_typed_rules.proofs.Options.{then_some}
 use Rattle.ur_check_scopes.specs.Views.{Refuses}
 use Rattle.ur_typed.specs.Project.{written_key, written_keys}
-use Rattle.ur_typed.specs.Declaring.{Sofar, datatype_names, full_name, keyed_shape, columns_shape, shape_with, shape_out}
+use Rattle.ur_typed.specs.Declaring.{Sofar, datatype_names, full_name, has_no_option, plain_shape, keyed_shape, columns_shape, shape_with, shape_out}
+use Rattle.ur_typed.proofs.Keyed.{plain_tested}
 use Rattle.ur_typed.specs.DeclFaults.{form_of, type_of, BreaksTable, no_table}
 use Rattle.ur_sqltype.specs.SqltableFaults.{TableBreaks}
 use Rattle.ur_syntax.specs.declared.con.Con.{Con}
@@ -48,7 +49,9 @@ row-shape name row keys shape t =
     then_some (columns_shape name keys) (all_of column_from row) shape.columns (Some shape) t.columns
     (so (is_none (repeated bytes_eq (map (λ c. c.0) shape.columns))) (option_and_then (keyed_shape name keys shape.columns) (all_of (key_of shape.columns) keys)) (none-is (repeated bytes_eq (map (λ c. c.0) shape.columns)) (none_twice bytes_eq (map (λ c. c.0) shape.columns) t.distinct))
     ∙ then_some (keyed_shape name keys shape.columns) (all_of (key_of shape.columns) keys) shape.keys (Some shape) t.are_keys
-    (so (list_all (λ k. is_none (repeated nat_eq k)) shape.keys) (Some (shape_with name keys shape.columns shape.keys)) (all-once shape.keys t.once)
+    (so (list_all (λ k. is_none (repeated nat_eq k)) shape.keys) (plain_shape name keys shape.columns shape.keys) (all-once shape.keys t.once)
+    ∙ so (list_all (has_no_option shape.columns) shape.keys) (Some (shape_with name keys shape.columns shape.keys))
+    (plain_tested shape.columns shape.keys t.plain_keys)
     ∙ ap Some (λ i. record { name = sym t.named i; columns = shape.columns; keys = shape.keys; primary = sym t.primary i })))
 
 pub shape-is : (name : List ℕ) (t : NormalType) (keys : List SqlKey) (shape : TableShape) → IsTable name (normal.Type t) keys shape → shape_out name keys t ≡ Some shape
@@ -82,7 +85,7 @@ said names (misplaced x y) r q e h = (e.0 ∙ h.0, e.1 ∙ h.1, e.2 ∙ h.2)
 said names (not_so x y) r q e h = (e.0 ∙ h.0, e.1 ∙ h.1, e.2 ∙ h.2)
 said names too_large r q e h = (e.0 ∙ h.0, e.1 ∙ h.1, e.2 ∙ h.2)
 said names (unkinded x y) r q e h = (e.0 ∙ h.0, e.1 ∙ h.1, e.2 ∙ h.2)
-said names (told_there c x y) r q e h = (e.0 ∙ h.0, e.1 ∙ h.1, e.2 ∙ h.2)
+said names (told_there p) r q e h = (e.0 ∙ h.0, e.1 ∙ h.1, e.2 ∙ h.2)
 
 pub placed-all : (A : Type 0) (s t : Stop) (P Q : Refusal → Type 0) → SaysAs s t → ((r q : Refusal) → Says q r.code r.left r.right → P r → Q q) → IfRefused {A = A} (Err s) P → IfRefused {A = Unit {0}} (Err t) Q
 placed-all A (stop.Refused r) (stop.Refused q) P Q e f h = f r q e h

@@ -1,5 +1,6 @@
 //! What the body of a function sees.
 ghost use Rattle.std.specs.Prelude.{◌≡◌, ◌++◌, ℕ, [], ◌∷◌, map, Some, IfOk, OnOk};
+ghost use Rattle.ur_rows.specs.Nodes.{most_nodes};
 ghost use Rattle.ur_syntax.specs.declared.con.ConEnv.{ConEnv as GhostEnv};
 ghost use Rattle.ur_disjoint.specs.Tests.{pair};
 ghost use Rattle.ur_rows_normal.specs.declared.environment.Place.{Place as GhostPlace};
@@ -148,7 +149,7 @@ pub fn body_scope(
     head: &Head,
     function: &FunDef,
 ) -> Result<BodyScope, Memory>
-    ensures { IfOk result (λ s. (env : GhostEnv) (h : Heading) → Reads place.now env → heading_out 65536 (record { cons = env; locals = [] }) function.now ≡ Some h → h.head ≡ head_in head.now → IsBodyScope s place.now h) }
+    ensures { IfOk result (λ s. (env : GhostEnv) (h : Heading) → Reads place.now env → heading_out most_nodes (record { cons = env; locals = [] }) function.now ≡ Some h → h.head ≡ head_in head.now → IsBodyScope s place.now h) }
 {
     let names = variables_of(alloc, place, function.con_params.as_slice())?;
     let cons = head_scope(alloc, head.cons.as_slice())?;
@@ -167,7 +168,7 @@ pub fn within_body<'a>(
     scope: &'a BodyScope,
     outside: &'a Locals<'a>,
 ) -> Around<'a>
-    ensures { (home : ℕ) (z : Sofar) (h : Heading) → Sees project.now home z → IsBodyScope scope.now place.now h → outside.now ≡ locals.Nothing → Stands result (world_behind 65536 z) (body_scope h) }
+    ensures { (home : ℕ) (z : Sofar) (h : Heading) → Sees project.now home z → IsBodyScope scope.now place.now h → outside.now ≡ locals.Nothing → Stands result (world_behind most_nodes z) (body_scope h) }
 {
     Around {
         world: &project.world,

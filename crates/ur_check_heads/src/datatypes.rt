@@ -1,5 +1,6 @@
 //! Types and datatypes.
 ghost use Rattle.std.specs.Prelude.{◌≡◌, ℕ, true, Some, IfOk, OnOk};
+ghost use Rattle.ur_rows.specs.Nodes.{most_nodes};
 ghost use Rattle.ur_base.specs.Stopping.{IfRefused};
 ghost use Rattle.ur_syntax.specs.declared.kind.Kind.{Kind as GhostKind};
 ghost use Rattle.ur_syntax.specs.declared.con.Con.{Con as GhostCon};
@@ -22,8 +23,8 @@ use ur_tree::{Datatype, Variant};
 
 /// What a name is defined as has rows whose parts are apart.
 fn may_be_defined(alloc: Global, project: &Project, con: &Con) -> Result<(), Stop>
-    ensures ok { OnOk result ((home : ℕ) (z : Sofar) → Sees project.now home z → may_be_defined 65536 z con.now ≡ true) }
-    ensures refused { IfRefused result (λ r. (home : ℕ) (z : Sofar) → Sees project.now home z → Refuses (datatype_names z) (BreaksDefined 65536 z con.now) r) }
+    ensures ok { OnOk result ((home : ℕ) (z : Sofar) → Sees project.now home z → may_be_defined most_nodes z con.now ≡ true) }
+    ensures refused { IfRefused result (λ r. (home : ℕ) (z : Sofar) → Sees project.now home z → Refuses (datatype_names z) (BreaksDefined most_nodes z con.now) r) }
 {
     let around = top(project);
     let form = normal_at(alloc, &around.scope.cons, con)?;
@@ -40,8 +41,8 @@ fn define(alloc: Global, project: &mut Project, name: &Text, con: &Con) -> Resul
 
 /// `con` and `type`.
 pub fn con_in(alloc: Global, project: &mut Project, name: &Text, con: &Con) -> Result<(), Stop>
-    ensures ok { OnOk result ((home : ℕ) (z : Sofar) (k : GhostKind) → Sees project.old home z → Comes project.new home (defined_out 65536 name.now k con.now z)) }
-    ensures refused { IfRefused result (λ r. (home : ℕ) (z : Sofar) → Sees project.old home z → Refuses (datatype_names z) (BreaksDefined 65536 z con.now) r) }
+    ensures ok { OnOk result ((home : ℕ) (z : Sofar) (k : GhostKind) → Sees project.old home z → Comes project.new home (defined_out most_nodes name.now k con.now z)) }
+    ensures refused { IfRefused result (λ r. (home : ℕ) (z : Sofar) → Sees project.old home z → Refuses (datatype_names z) (BreaksDefined most_nodes z con.now) r) }
 {
     may_be_defined(alloc, project, con)?;
     define(alloc, project, name, con)?;
@@ -88,8 +89,8 @@ fn add_datatype(alloc: Global, project: &mut Project, name: &Text) -> Result<u32
 
 /// The argument of a constructor is a value.
 fn argument(alloc: Global, project: &Project, con: &Con) -> Result<NormalType, Stop>
-    ensures of { IfOk result (λ t. (home : ℕ) (z : Sofar) → Sees project.now home z → argument_out 65536 z con.now ≡ Some t) }
-    ensures refused { IfRefused result (λ r. (home : ℕ) (z : Sofar) → Sees project.now home z → Refuses (datatype_names z) (BreaksArgument 65536 z con.now) r) }
+    ensures of { IfOk result (λ t. (home : ℕ) (z : Sofar) → Sees project.now home z → argument_out most_nodes z con.now ≡ Some t) }
+    ensures refused { IfRefused result (λ r. (home : ℕ) (z : Sofar) → Sees project.now home z → Refuses (datatype_names z) (BreaksArgument most_nodes z con.now) r) }
 {
     let around = top(project);
     let of = type_at(alloc, &around, con)?;
@@ -105,8 +106,8 @@ fn argument_of(
     project: &Project,
     written: &Written,
 ) -> Result<Option<NormalType>, Stop>
-    ensures of { IfOk result (λ t. (home : ℕ) (z : Sofar) (datatype : ℕ) → Sees project.now home z → variant_out 65536 datatype written.now.name written.now.con z ≡ Some (with_constructor datatype written.now.name t z)) }
-    ensures refused { IfRefused result (λ r. (home : ℕ) (z : Sofar) → Sees project.now home z → Refuses (datatype_names z) (λ f. (c : GhostCon) × (written.now.con ≡ Some c) × BreaksArgument 65536 z c f) r) }
+    ensures of { IfOk result (λ t. (home : ℕ) (z : Sofar) (datatype : ℕ) → Sees project.now home z → variant_out most_nodes datatype written.now.name written.now.con z ≡ Some (with_constructor datatype written.now.name t z)) }
+    ensures refused { IfRefused result (λ r. (home : ℕ) (z : Sofar) → Sees project.now home z → Refuses (datatype_names z) (λ f. (c : GhostCon) × (written.now.con ≡ Some c) × BreaksArgument most_nodes z c f) r) }
 {
     match &written.con {
         Some(con) => {
@@ -146,8 +147,8 @@ fn variants_in(
     datatype: u32,
     variants: &[Written],
 ) -> Result<(), Stop>
-    ensures ok { OnOk result ((home : ℕ) (z : Sofar) → Sees project.old home z → Comes project.new home (variants_out 65536 datatype variants.now z)) }
-    ensures refused { IfRefused result (λ r. (home : ℕ) (z : Sofar) → Sees project.old home z → Refuses (datatype_names z) (BreaksVariants 65536 datatype variants.now z) r) }
+    ensures ok { OnOk result ((home : ℕ) (z : Sofar) → Sees project.old home z → Comes project.new home (variants_out most_nodes datatype variants.now z)) }
+    ensures refused { IfRefused result (λ r. (home : ℕ) (z : Sofar) → Sees project.old home z → Refuses (datatype_names z) (BreaksVariants most_nodes datatype variants.now z) r) }
 {
     for i in 0..variants.len() {
         let variant = &variants[i];
@@ -164,8 +165,8 @@ pub fn datatype_in(
     name: &Text,
     variants: &[Written],
 ) -> Result<(), Stop>
-    ensures ok { OnOk result ((home : ℕ) (z : Sofar) → Sees project.old home z → Comes project.new home (variants_out 65536 z.place.datatypes variants.now (with_datatype home name.now z))) }
-    ensures refused { IfRefused result (λ r. (home : ℕ) (z : Sofar) → Sees project.old home z → Refuses (datatype_names (with_datatype home name.now z)) (BreaksVariants 65536 z.place.datatypes variants.now (with_datatype home name.now z)) r) }
+    ensures ok { OnOk result ((home : ℕ) (z : Sofar) → Sees project.old home z → Comes project.new home (variants_out most_nodes z.place.datatypes variants.now (with_datatype home name.now z))) }
+    ensures refused { IfRefused result (λ r. (home : ℕ) (z : Sofar) → Sees project.old home z → Refuses (datatype_names (with_datatype home name.now z)) (BreaksVariants most_nodes z.place.datatypes variants.now (with_datatype home name.now z)) r) }
 {
     let datatype = add_datatype(alloc, project, name)?;
     variants_in(alloc, project, datatype, variants)

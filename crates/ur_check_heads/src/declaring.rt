@@ -1,5 +1,6 @@
 //! One declaration after another.
 ghost use Rattle.std.specs.Prelude.{ℕ, OnOk, option_map};
+ghost use Rattle.ur_rows.specs.Nodes.{most_nodes};
 ghost use Rattle.ur_base.specs.Stopping.{IfRefused};
 ghost use Rattle.ur_check_scopes.specs.Views.{Refuses};
 ghost use Rattle.ur_typed.specs.Declaring.{Sofar, datatype_names, val_type_out, with_val_of, decl_out};
@@ -16,8 +17,8 @@ use ur_syntax::{Con, Decl, DeclForm};
 
 /// A `val`, of its written type.
 fn declare_val(alloc: Global, project: &mut Project, name: &Text, con: &Con) -> Result<(), Stop>
-    ensures ok { OnOk result ((home : ℕ) (z : Sofar) → Sees project.old home z → Comes project.new home (option_map (with_val_of name.now z) (val_type_out 65536 con.now z))) }
-    ensures refused { IfRefused result (λ r. (home : ℕ) (z : Sofar) → Sees project.old home z → Refuses (datatype_names z) (BreaksVal 65536 z con.now) r) }
+    ensures ok { OnOk result ((home : ℕ) (z : Sofar) → Sees project.old home z → Comes project.new home (option_map (with_val_of name.now z) (val_type_out most_nodes con.now z))) }
+    ensures refused { IfRefused result (λ r. (home : ℕ) (z : Sofar) → Sees project.old home z → Refuses (datatype_names z) (BreaksVal most_nodes z con.now) r) }
 {
     let of = val_head(alloc, project, con)?;
     val_in(alloc, project, name, of)?;
@@ -26,8 +27,8 @@ fn declare_val(alloc: Global, project: &mut Project, name: &Text, con: &Con) -> 
 
 /// The written head of a declaration, or those of a group, behind what is declared before it.
 pub fn declare(alloc: Global, project: &mut Project, decl: &Decl) -> Result<(), Stop>
-    ensures ok { OnOk result ((home : ℕ) (z : Sofar) → Sees project.old home z → Comes project.new home (decl_out 65536 home decl.now.form z)) }
-    ensures refused { IfRefused result (λ r. (home : ℕ) (z : Sofar) → Sees project.old home z → Refuses (names_within home decl.now.form z) (BreaksDecl 65536 home z decl.now.form) r) }
+    ensures ok { OnOk result ((home : ℕ) (z : Sofar) → Sees project.old home z → Comes project.new home (decl_out most_nodes home decl.now.form z)) }
+    ensures refused { IfRefused result (λ r. (home : ℕ) (z : Sofar) → Sees project.old home z → Refuses (names_within home decl.now.form z) (BreaksDecl most_nodes home z decl.now.form) r) }
 {
     match &decl.form {
         DeclForm::Con(name, _kind, con) => con_in(alloc, project, name, con),

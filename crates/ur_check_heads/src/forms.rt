@@ -1,5 +1,5 @@
 //! The fields of the form that gives a function its last argument.
-ghost use Rattle.std.specs.Prelude.{◌≡◌, ◌<◌, IsTrue, bytes_eq, [], map, Some, IfOk, IfSome, All, slice_get};
+ghost use Rattle.std.specs.Prelude.{◌≡◌, ◌↔◌, ◌<◌, IsTrue, bytes_eq, [], map, Some, IfOk, IfSome, All, slice_get};
 ghost use Rattle.ur_rows.specs.declared.normal.Label.TheVariants as label;
 ghost use Rattle.ur_rows.specs.Made as made;
 ghost use Rattle.ur_rows.specs.Order.{joined};
@@ -129,14 +129,14 @@ fn is_ordered(alloc: Global, row: &List<Part>) -> Result<bool, Memory>
 
 /// The second field has the greater number.
 fn rises(one: &FormField, other: &FormField) -> bool
-    ensures { IsTrue result → one.now.number.0 < other.now.number.0 }
+    ensures { IsTrue result ↔ (one.now.number.0 < other.now.number.0) }
 {
     one.number.0 < other.number.0
 }
 
 /// Each field has a greater number than those before it.
 fn are_rising(form: &[FormField]) -> bool
-    ensures { IsTrue result → AreRising form.now }
+    ensures { IsTrue result ↔ AreRising form.now }
 {
     for i in 1..form.len() {
         let before = &form[i - 1];

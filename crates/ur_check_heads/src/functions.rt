@@ -1,5 +1,6 @@
 //! Functions of a group, and `val`s.
 ghost use Rattle.std.specs.Prelude.{◌≡◌, ℕ, Some, IfOk, OnOk};
+ghost use Rattle.ur_rows.specs.Nodes.{most_nodes};
 ghost use Rattle.ur_base.specs.Stopping.{IfRefused};
 ghost use Rattle.ur_check_scopes.specs.Views.{Refuses, head_in};
 ghost use Rattle.ur_syntax.specs.declared.decl.FunDef.{FunDef as GhostFunction};
@@ -33,8 +34,8 @@ fn add_function(alloc: Global, project: &mut Project, name: &Text, head: Head) -
 
 /// The heads of the functions of a group, which see one another.
 pub fn functions_in(alloc: Global, project: &mut Project, functions: &[FunDef]) -> Result<(), Stop>
-    ensures ok { OnOk result ((home : ℕ) (z : Sofar) → Sees project.old home z → Comes project.new home (headings_out 65536 home functions.now z)) }
-    ensures refused { IfRefused result (λ r. (home : ℕ) (z : Sofar) → Sees project.old home z → Refuses (datatype_names z) (BreaksHeadings 65536 home functions.now z) r) }
+    ensures ok { OnOk result ((home : ℕ) (z : Sofar) → Sees project.old home z → Comes project.new home (headings_out most_nodes home functions.now z)) }
+    ensures refused { IfRefused result (λ r. (home : ℕ) (z : Sofar) → Sees project.old home z → Refuses (datatype_names z) (BreaksHeadings most_nodes home functions.now z) r) }
 {
     for i in 0..functions.len() {
         let function = &functions[i];
@@ -46,8 +47,8 @@ pub fn functions_in(alloc: Global, project: &mut Project, functions: &[FunDef]) 
 
 /// The written type of a `val`.
 pub fn val_head(alloc: Global, project: &Project, con: &Con) -> Result<NormalType, Stop>
-    ensures of { IfOk result (λ t. (home : ℕ) (z : Sofar) → Sees project.now home z → val_type_out 65536 con.now z ≡ Some t) }
-    ensures refused { IfRefused result (λ r. (home : ℕ) (z : Sofar) → Sees project.now home z → Refuses (datatype_names z) (BreaksVal 65536 z con.now) r) }
+    ensures of { IfOk result (λ t. (home : ℕ) (z : Sofar) → Sees project.now home z → val_type_out most_nodes con.now z ≡ Some t) }
+    ensures refused { IfRefused result (λ r. (home : ℕ) (z : Sofar) → Sees project.now home z → Refuses (datatype_names z) (BreaksVal most_nodes z con.now) r) }
 {
     let around = top(project);
     let form = normal_at(alloc, &around.scope.cons, con)?;

@@ -4,7 +4,7 @@ ghost use Rattle.std.specs.List.{list_all};
 ghost use Rattle.ur_base.specs.Stopping.{IfRefused};
 ghost use Rattle.ur_syntax.specs.declared.con.ConEnv.{ConEnv as GhostEnv};
 ghost use Rattle.ur_syntax.specs.declared.con.ConParam.TheVariants as written_con;
-ghost use Rattle.ur_rows.specs.Nodes.{nodes};
+ghost use Rattle.ur_rows.specs.Nodes.{nodes, most_nodes};
 ghost use Rattle.ur_rows.specs.Normal.{nf};
 ghost use Rattle.ur_rows.specs.Types.{holds_arrow};
 ghost use Rattle.ur_rows_normal.specs.Preparing.{Reads, Covers};
@@ -53,8 +53,8 @@ fn cons_at<'a>(place: &Place<'a>) -> Cons<'a>
 
 /// A side of `~`.
 fn side(alloc: Global, place: &Place, con: &Con) -> Result<List<Part>, Stop>
-    ensures row { IfOk result (λ row. (env : GhostEnv) → Reads place.now env → small_row 65536 (nf env con.now) ≡ Some row) }
-    ensures refused { IfRefused result (λ r. IsLarge r × ((env : GhostEnv) → Reads place.now env → nat_le (nodes (nf env con.now)) 65536 ≡ false)) }
+    ensures row { IfOk result (λ row. (env : GhostEnv) → Reads place.now env → small_row most_nodes (nf env con.now) ≡ Some row) }
+    ensures refused { IfRefused result (λ r. IsLarge r × ((env : GhostEnv) → Reads place.now env → nat_le (nodes (nf env con.now)) most_nodes ≡ false)) }
 {
     let cons = cons_at(place);
     let form = normal_at(alloc, &cons, con)?;
@@ -64,8 +64,8 @@ fn side(alloc: Global, place: &Place, con: &Con) -> Result<List<Part>, Stop>
 
 /// Two rows that are to be apart.
 fn sides(alloc: Global, place: &Place, one: &Con, other: &Con) -> Result<ConParam, Stop>
-    ensures param { IfOk result (λ p. (known : GhostNames) → Reads place.now known.cons → con_params_out 65536 known (written_con.Disjoint one.now other.now ∷ []) ≡ Some (known, p ∷ [])) }
-    ensures refused { IfRefused result (λ r. IsLarge r × ((known : GhostNames) → Reads place.now known.cons → HasLargeSide 65536 known (written_con.Disjoint one.now other.now ∷ []))) }
+    ensures param { IfOk result (λ p. (known : GhostNames) → Reads place.now known.cons → con_params_out most_nodes known (written_con.Disjoint one.now other.now ∷ []) ≡ Some (known, p ∷ [])) }
+    ensures refused { IfRefused result (λ r. IsLarge r × ((known : GhostNames) → Reads place.now known.cons → HasLargeSide most_nodes known (written_con.Disjoint one.now other.now ∷ []))) }
 {
     let left = side(alloc, place, one)?;
     let right = side(alloc, place, other)?;
@@ -79,8 +79,8 @@ fn con_param(
     names: &Layer,
     written: &WrittenCon,
 ) -> Result<ConParam, Stop>
-    ensures param { IfOk result (λ p. (known : GhostNames) → Covers names.now place.now known.cons → con_params_out 65536 known (written.now ∷ []) ≡ Some (names_after (written.now ∷ []) known, p ∷ [])) }
-    ensures refused { IfRefused result (λ r. IsLarge r × ((known : GhostNames) → Covers names.now place.now known.cons → HasLargeSide 65536 known (written.now ∷ []))) }
+    ensures param { IfOk result (λ p. (known : GhostNames) → Covers names.now place.now known.cons → con_params_out most_nodes known (written.now ∷ []) ≡ Some (names_after (written.now ∷ []) known, p ∷ [])) }
+    ensures refused { IfRefused result (λ r. IsLarge r × ((known : GhostNames) → Covers names.now place.now known.cons → HasLargeSide most_nodes known (written.now ∷ []))) }
 {
     match written {
         WrittenCon::Kinded(_, kind) => {
@@ -105,8 +105,8 @@ struct Parameters {
 
 fn con_params(alloc: Global, place: &Place, written: &[WrittenCon]) -> Result<Parameters, Stop>
     ensures names { IfOk result (λ p. (known : GhostNames) → Reads place.now known.cons → Covers p.names place.now (names_after written.now known).cons) }
-    ensures params { IfOk result (λ p. (known : GhostNames) → Reads place.now known.cons → con_params_out 65536 known written.now ≡ Some (names_after written.now known, p.cons)) }
-    ensures refused { IfRefused result (λ r. IsLarge r × ((known : GhostNames) → Reads place.now known.cons → HasLargeSide 65536 known written.now)) }
+    ensures params { IfOk result (λ p. (known : GhostNames) → Reads place.now known.cons → con_params_out most_nodes known written.now ≡ Some (names_after written.now known, p.cons)) }
+    ensures refused { IfRefused result (λ r. IsLarge r × ((known : GhostNames) → Reads place.now known.cons → HasLargeSide most_nodes known written.now)) }
 {
     let mut names = Layer::new(alloc, place);
     let mut cons = List::new(alloc);
@@ -121,8 +121,8 @@ fn con_params(alloc: Global, place: &Place, written: &[WrittenCon]) -> Result<Pa
 
 /// The parameters of a function.
 fn params(alloc: Global, place: &Place, written: &[Written]) -> Result<List<Local>, Stop>
-    ensures params { IfOk result (λ ls. (known : GhostNames) → Reads place.now known.cons → all_params_out 65536 known written.now ≡ Some (map local_in ls, map param_in ls)) }
-    ensures refused { IfRefused result (λ r. IsLarge r × ((known : GhostNames) → Reads place.now known.cons → HasLargeParam 65536 known written.now)) }
+    ensures params { IfOk result (λ ls. (known : GhostNames) → Reads place.now known.cons → all_params_out most_nodes known written.now ≡ Some (map local_in ls, map param_in ls)) }
+    ensures refused { IfRefused result (λ r. IsLarge r × ((known : GhostNames) → Reads place.now known.cons → HasLargeParam most_nodes known written.now)) }
 {
     let cons = cons_at(place);
     let mut locals = List::new(alloc);
@@ -135,8 +135,8 @@ fn params(alloc: Global, place: &Place, written: &[Written]) -> Result<List<Loca
 
 /// The result of a function.
 fn result_at(alloc: Global, place: &Place, con: &Con) -> Result<NormalType, Stop>
-    ensures of { IfOk result (λ t. (env : GhostEnv) → Reads place.now env → small_type 65536 (nf env con.now) ≡ Some t) }
-    ensures refused { IfRefused result (λ r. IsLarge r × ((env : GhostEnv) → Reads place.now env → nat_le (nodes (nf env con.now)) 65536 ≡ false)) }
+    ensures of { IfOk result (λ t. (env : GhostEnv) → Reads place.now env → small_type most_nodes (nf env con.now) ≡ Some t) }
+    ensures refused { IfRefused result (λ r. IsLarge r × ((env : GhostEnv) → Reads place.now env → nat_le (nodes (nf env con.now)) most_nodes ≡ false)) }
 {
     let cons = cons_at(place);
     let form = normal_at(alloc, &cons, con)?;
@@ -151,10 +151,10 @@ fn head_behind(
     parameters: Parameters,
     function: &FunDef,
 ) -> Result<Head, Stop>
-    ensures head { IfOk result (λ h. (known : GhostNames) → Covers parameters.names place.now (names_after function.now.con_params known).cons → con_params_out 65536 known function.now.con_params ≡ Some (names_after function.now.con_params known, parameters.cons)
-        → (w : Heading) × (written_heading 65536 known function.now ≡ Some w) × (w.head ≡ head_in h)) }
+    ensures head { IfOk result (λ h. (known : GhostNames) → Covers parameters.names place.now (names_after function.now.con_params known).cons → con_params_out most_nodes known function.now.con_params ≡ Some (names_after function.now.con_params known, parameters.cons)
+        → (w : Heading) × (written_heading most_nodes known function.now ≡ Some w) × (w.head ≡ head_in h)) }
     ensures refused { IfRefused result (λ r. IsLarge r × ((known : GhostNames) (texts : GhostList (GhostList ℕ)) → Covers parameters.names place.now (names_after function.now.con_params known).cons
-        → con_params_out 65536 known function.now.con_params ≡ Some (names_after function.now.con_params known, parameters.cons) → BreaksHeading texts 65536 known function.now faults.too_large)) }
+        → con_params_out most_nodes known function.now.con_params ≡ Some (names_after function.now.con_params known, parameters.cons) → BreaksHeading texts most_nodes known function.now faults.too_large)) }
 {
     let Parameters { names, cons } = parameters;
     let outside = *place;
@@ -171,8 +171,8 @@ fn head_behind(
 
 /// The head of a function as it is written.
 fn written_head(alloc: Global, place: &Place, function: &FunDef) -> Result<Head, Stop>
-    ensures head { IfOk result (λ h. (known : GhostNames) → Reads place.now known.cons → (w : Heading) × (written_heading 65536 known function.now ≡ Some w) × (w.head ≡ head_in h)) }
-    ensures refused { IfRefused result (λ r. IsLarge r × ((known : GhostNames) (texts : GhostList (GhostList ℕ)) → Reads place.now known.cons → BreaksHeading texts 65536 known function.now faults.too_large)) }
+    ensures head { IfOk result (λ h. (known : GhostNames) → Reads place.now known.cons → (w : Heading) × (written_heading most_nodes known function.now ≡ Some w) × (w.head ≡ head_in h)) }
+    ensures refused { IfRefused result (λ r. IsLarge r × ((known : GhostNames) (texts : GhostList (GhostList ℕ)) → Reads place.now known.cons → BreaksHeading texts most_nodes known function.now faults.too_large)) }
 {
     let parameters = con_params(alloc, place, function.con_params.as_slice())?;
     let head = head_behind(alloc, place, parameters, function)?;
@@ -286,7 +286,7 @@ fn result_fits(alloc: Global, around: &Around, con: &Con, of: &NormalType) -> Re
 
 /// Whether a head may be written.
 fn head_fits(alloc: Global, around: &Around, function: &FunDef, head: &Head) -> Result<(), Stop>
-    ensures ok { OnOk result (env_in around.now.scope.cons ≡ within_head (head_in head.now) → (known : GhostNames) (w : Heading) → written_heading 65536 known function.now ≡ Some w → w.head ≡ head_in head.now → head_fits (head_in head.now) ≡ true) }
+    ensures ok { OnOk result (env_in around.now.scope.cons ≡ within_head (head_in head.now) → (known : GhostNames) (w : Heading) → written_heading most_nodes known function.now ≡ Some w → w.head ≡ head_in head.now → head_fits (head_in head.now) ≡ true) }
     ensures refused { IfRefused result (λ r. env_in around.now.scope.cons ≡ within_head (head_in head.now) → Refuses around.now.world.now.datatype_names (BreaksHead around.now.world.now.datatype_names function.now (head_in head.now)) r) }
 {
     cons_fit(alloc, around, function, head.cons.as_slice())?;
@@ -322,8 +322,8 @@ fn around_head<'a>(project: &'a Project, place: Place<'a>, scope: &'a HeadScope)
 
 /// The head of a function, which may be written.
 pub fn head_of(alloc: Global, project: &Project, function: &FunDef) -> Result<Head, Stop>
-    ensures head { IfOk result (λ h. (home : ℕ) (z : Sofar) → Sees project.now home z → (w : Heading) × (heading_out 65536 (names_at z.place) function.now ≡ Some w) × (w.head ≡ head_in h)) }
-    ensures refused { IfRefused result (λ r. (home : ℕ) (z : Sofar) → Sees project.now home z → Refuses (datatype_names z) (BreaksHeading (datatype_names z) 65536 (names_at z.place) function.now) r) }
+    ensures head { IfOk result (λ h. (home : ℕ) (z : Sofar) → Sees project.now home z → (w : Heading) × (heading_out most_nodes (names_at z.place) function.now ≡ Some w) × (w.head ≡ head_in h)) }
+    ensures refused { IfRefused result (λ r. (home : ℕ) (z : Sofar) → Sees project.now home z → Refuses (datatype_names z) (BreaksHeading (datatype_names z) most_nodes (names_at z.place) function.now) r) }
 {
     let place = project.names.in_scope();
     let head = written_head(alloc, &place, function)?;

@@ -1,5 +1,6 @@
 //! What is declared so far.
 ghost use Rattle.std.specs.Prelude.{◌≡◌, ℕ, [], Some, IfOk, OnOk};
+ghost use Rattle.ur_rows.specs.Nodes.{most_nodes};
 ghost use Rattle.ur_syntax.specs.Names.{member, name_text};
 ghost use Rattle.ur_tree.specs.App.{nothing_in_scope};
 ghost use Rattle.ur_typed.specs.Declaring.{Sofar, Checked, world_behind, top_scope, entered, nothing_yet};
@@ -84,7 +85,7 @@ pub const LEVELS: u32 = 1200;
 
 /// Outside all functions.
 pub fn top<'a>(project: &'a Project) -> Around<'a>
-    ensures stands { (home : ℕ) (z : Sofar) → Sees project.now home z → Stands result (world_behind 65536 z) (top_scope z) }
+    ensures stands { (home : ℕ) (z : Sofar) → Sees project.now home z → Stands result (world_behind most_nodes z) (top_scope z) }
     ensures world { result.world.now ≡ project.now.world }
     ensures cons { env_in result.scope.cons ≡ nothing_in_scope }
 {

@@ -5,7 +5,7 @@ ghost use Rattle.ur_base.specs.Stopping.{IfRefused};
 ghost use Rattle.ur_syntax.specs.Names.{looked_up};
 ghost use Rattle.ur_syntax.specs.declared.decl.Signature.{Signature as GhostSignature};
 ghost use Rattle.ur_rows.specs.Made.{arrow_of};
-ghost use Rattle.ur_rows.specs.Nodes.{nodes};
+ghost use Rattle.ur_rows.specs.Nodes.{nodes, most_nodes};
 ghost use Rattle.ur_rows.specs.Types.{arrows_of};
 ghost use Rattle.ur_sqltype.specs.Lists.{all_of};
 ghost use Rattle.ur_tree.specs.Heads.{function_type};
@@ -65,7 +65,7 @@ fn same_type(a: &NormalType, b: &NormalType) -> bool
 
 /// The function has the type that the signature writes.
 fn is_of_type(alloc: Global, project: &Project, con: &Con, head: &Head) -> Result<(), Stop>
-    ensures small { OnOk result ((home : ℕ) (z : Sofar) → Sees project.now home z → nat_le (nodes (form_of z con.now)) 65536 ≡ true) }
+    ensures small { OnOk result ((home : ℕ) (z : Sofar) → Sees project.now home z → nat_le (nodes (form_of z con.now)) most_nodes ≡ true) }
     ensures same { OnOk result ((home : ℕ) (z : Sofar) → Sees project.now home z → same_type (function_type (head_in head.now)) (type_of z con.now) ≡ true) }
     ensures refused { IfRefused result (λ r. (home : ℕ) (z : Sofar) → Sees project.now home z → Refuses (datatype_names z) (OtherType z con.now (head_in head.now)) r) }
 {
@@ -96,7 +96,7 @@ fn may_enter(alloc: Global, span: Span, head: &Head) -> Result<(), Stop>
 
 /// The function with this head may be the entry.
 fn fits(alloc: Global, project: &Project, val: &ValDecl, head: &Head) -> Result<(), Stop>
-    ensures small { OnOk result ((home : ℕ) (z : Sofar) → Sees project.now home z → nat_le (nodes (form_of z val.now.con)) 65536 ≡ true) }
+    ensures small { OnOk result ((home : ℕ) (z : Sofar) → Sees project.now home z → nat_le (nodes (form_of z val.now.con)) most_nodes ≡ true) }
     ensures signed { OnOk result ((home : ℕ) (z : Sofar) → Sees project.now home z → is_signed z val.now.con (head_in head.now) ≡ true) }
     ensures refused { IfRefused result (λ r. (home : ℕ) (z : Sofar) → Sees project.now home z → Refuses (datatype_names z) (Unfit z val.now.con (head_in head.now)) r) }
 {
@@ -115,8 +115,8 @@ fn meaning(project: &Project, name: &[u8]) -> Option<Means>
 
 /// A function that a name of the signature stands for.
 fn function_fits(alloc: Global, project: &Project, val: &ValDecl, number: u32) -> Result<(), Stop>
-    ensures ok { OnOk result ((home : ℕ) (z : Sofar) → Sees project.now home z → looked_up (at z.place val.now.name) z.place.globals.values ≡ Some (here.function number) → entry_out 65536 z val.now ≡ Some number) }
-    ensures refused { IfRefused result (λ r. (home : ℕ) (z : Sofar) → Sees project.now home z → looked_up (at z.place val.now.name) z.place.globals.values ≡ Some (here.function number) → Refuses (datatype_names z) (BreaksEntry 65536 z val.now) r) }
+    ensures ok { OnOk result ((home : ℕ) (z : Sofar) → Sees project.now home z → looked_up (at z.place val.now.name) z.place.globals.values ≡ Some (here.function number) → entry_out most_nodes z val.now ≡ Some number) }
+    ensures refused { IfRefused result (λ r. (home : ℕ) (z : Sofar) → Sees project.now home z → looked_up (at z.place val.now.name) z.place.globals.values ≡ Some (here.function number) → Refuses (datatype_names z) (BreaksEntry most_nodes z val.now) r) }
 {
     match function_at(&project.world, number) {
         Some(head) => {
@@ -129,8 +129,8 @@ fn function_fits(alloc: Global, project: &Project, val: &ValDecl, number: u32) -
 
 /// The function of an entry, by its number.
 fn entry(alloc: Global, project: &Project, val: &ValDecl) -> Result<u32, Stop>
-    ensures ok { IfOk result (λ n. (home : ℕ) (z : Sofar) → Sees project.now home z → entry_out 65536 z val.now ≡ Some n) }
-    ensures refused { IfRefused result (λ r. (home : ℕ) (z : Sofar) → Sees project.now home z → Refuses (datatype_names z) (BreaksEntry 65536 z val.now) r) }
+    ensures ok { IfOk result (λ n. (home : ℕ) (z : Sofar) → Sees project.now home z → entry_out most_nodes z val.now ≡ Some n) }
+    ensures refused { IfRefused result (λ r. (home : ℕ) (z : Sofar) → Sees project.now home z → Refuses (datatype_names z) (BreaksEntry most_nodes z val.now) r) }
 {
     match meaning(project, val.name.as_slice()) {
         Some(means) => match means {
@@ -146,8 +146,8 @@ fn entry(alloc: Global, project: &Project, val: &ValDecl) -> Result<u32, Stop>
 
 /// The functions that the signature names.
 fn signed(alloc: Global, project: &Project, vals: &[ValDecl]) -> Result<List<u32>, Stop>
-    ensures ok { IfOk result (λ list. (home : ℕ) (z : Sofar) → Sees project.now home z → all_of (entry_out 65536 z) vals.now ≡ Some list) }
-    ensures refused { IfRefused result (λ r. (home : ℕ) (z : Sofar) → Sees project.now home z → EntriesHaveFault 65536 z r vals.now) }
+    ensures ok { IfOk result (λ list. (home : ℕ) (z : Sofar) → Sees project.now home z → all_of (entry_out most_nodes z) vals.now ≡ Some list) }
+    ensures refused { IfRefused result (λ r. (home : ℕ) (z : Sofar) → Sees project.now home z → EntriesHaveFault most_nodes z r vals.now) }
 {
     let mut list = List::new(alloc);
     for i in 0..vals.len() {
@@ -204,8 +204,8 @@ pub fn entries(
     project: &Project,
     signature: Option<&Signature>,
 ) -> Result<List<u32>, Stop>
-    ensures ok { IfOk result (λ list. (home : ℕ) (z : Sofar) → Sees project.now home z → entries_out 65536 z home (option_copied signature.entry) ≡ Some list) }
-    ensures refused { IfRefused result (λ r. (home : ℕ) (z : Sofar) → Sees project.now home z → (s : GhostSignature) × (option_copied signature.entry ≡ Some s) × EntriesHaveFault 65536 z r s.vals) }
+    ensures ok { IfOk result (λ list. (home : ℕ) (z : Sofar) → Sees project.now home z → entries_out most_nodes z home (option_copied signature.entry) ≡ Some list) }
+    ensures refused { IfRefused result (λ r. (home : ℕ) (z : Sofar) → Sees project.now home z → (s : GhostSignature) × (option_copied signature.entry ≡ Some s) × EntriesHaveFault most_nodes z r s.vals) }
 {
     match signature {
         Some(s) => signed(alloc, project, s.vals.as_slice()),

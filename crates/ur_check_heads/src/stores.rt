@@ -4,7 +4,7 @@ ghost use Rattle.ur_base.specs.Stopping.{IfRefused};
 ghost use Rattle.ur_syntax.specs.declared.decl.Constraint.{Constraint as GhostConstraint};
 ghost use Rattle.ur_check_scopes.specs.Views.{Refuses, IsLarge};
 ghost use Rattle.ur_rows.specs.declared.normal.Normal.TheVariants as normal;
-ghost use Rattle.ur_rows.specs.Nodes.{nodes};
+ghost use Rattle.ur_rows.specs.Nodes.{nodes, most_nodes};
 ghost use Rattle.ur_rows.specs.Normal.{nf};
 ghost use Rattle.ur_sqltype.specs.Table.{type_kind, PrimaryComesFirst};
 ghost use Rattle.ur_sqltype.specs.SqltableFaults.{TableBreaks};
@@ -109,8 +109,8 @@ fn placed(span: Span, stop: Stop) -> Stop
 
 /// The type of a table or of a cookie.
 fn written_type(alloc: Global, project: &Project, con: &Con) -> Result<NormalType, Stop>
-    ensures of { IfOk result (λ t. (home : ℕ) (z : Sofar) → Sees project.now home z → small_type 65536 (nf (env_at z.place) con.now) ≡ Some t) }
-    ensures refused { IfRefused result (λ r. IsLarge r × ((home : ℕ) (z : Sofar) → Sees project.now home z → nat_le (nodes (form_of z con.now)) 65536 ≡ false)) }
+    ensures of { IfOk result (λ t. (home : ℕ) (z : Sofar) → Sees project.now home z → small_type most_nodes (nf (env_at z.place) con.now) ≡ Some t) }
+    ensures refused { IfRefused result (λ r. IsLarge r × ((home : ℕ) (z : Sofar) → Sees project.now home z → nat_le (nodes (form_of z con.now)) most_nodes ≡ false)) }
 {
     let around = top(project);
     let form = normal_at(alloc, &around.scope.cons, con)?;
@@ -149,8 +149,8 @@ fn table_at(
     keys: &[SqlKey],
 ) -> Result<TableShape, Stop>
     requires { PrimaryComesFirst keys.now }
-    ensures shape { IfOk result (λ s. (home : ℕ) (z : Sofar) → Sees project.now home z → option_and_then (shape_out (full_name z name.now) keys.now) (small_type 65536 (nf (env_at z.place) con.now)) ≡ Some s) }
-    ensures refused { IfRefused result (λ r. (home : ℕ) (z : Sofar) → Sees project.now home z → (primary : Option (GhostList (GhostList ℕ))) (constraints : GhostList GhostConstraint) → keys.now ≡ written_keys primary constraints → Refuses (datatype_names z) (BreaksTable 65536 z con.now primary constraints) r) }
+    ensures shape { IfOk result (λ s. (home : ℕ) (z : Sofar) → Sees project.now home z → option_and_then (shape_out (full_name z name.now) keys.now) (small_type most_nodes (nf (env_at z.place) con.now)) ≡ Some s) }
+    ensures refused { IfRefused result (λ r. (home : ℕ) (z : Sofar) → Sees project.now home z → (primary : Option (GhostList (GhostList ℕ))) (constraints : GhostList GhostConstraint) → keys.now ≡ written_keys primary constraints → Refuses (datatype_names z) (BreaksTable most_nodes z con.now primary constraints) r) }
 {
     let of = written_type(alloc, project, con)?;
     let full = full_name(alloc, project, name)?;
@@ -168,8 +168,8 @@ pub fn table_in(
     primary: &Option<List<Text>>,
     constraints: &[Constraint],
 ) -> Result<(), Stop>
-    ensures ok { OnOk result ((home : ℕ) (z : Sofar) → Sees project.old home z → Comes project.new home (table_out 65536 name.now con.now primary.now constraints.now z)) }
-    ensures refused { IfRefused result (λ r. (home : ℕ) (z : Sofar) → Sees project.old home z → Refuses (datatype_names z) (BreaksTable 65536 z con.now primary.now constraints.now) r) }
+    ensures ok { OnOk result ((home : ℕ) (z : Sofar) → Sees project.old home z → Comes project.new home (table_out most_nodes name.now con.now primary.now constraints.now z)) }
+    ensures refused { IfRefused result (λ r. (home : ℕ) (z : Sofar) → Sees project.old home z → Refuses (datatype_names z) (BreaksTable most_nodes z con.now primary.now constraints.now) r) }
 {
     let keys = written_keys(alloc, primary, constraints)?;
     match table_at(alloc, project, name, con, keys.as_slice()) {
@@ -206,8 +206,8 @@ fn kind_of(of: &NormalType) -> Option<ColumnKind>
 
 /// The kind of a cookie.
 fn cookie_kind(alloc: Global, project: &Project, con: &Con) -> Result<ColumnKind, Stop>
-    ensures kind { IfOk result (λ k. (home : ℕ) (z : Sofar) → Sees project.now home z → option_and_then type_kind (small_type 65536 (nf (env_at z.place) con.now)) ≡ Some k) }
-    ensures refused { IfRefused result (λ r. (home : ℕ) (z : Sofar) → Sees project.now home z → Refuses (datatype_names z) (BreaksCookie 65536 z con.now) r) }
+    ensures kind { IfOk result (λ k. (home : ℕ) (z : Sofar) → Sees project.now home z → option_and_then type_kind (small_type most_nodes (nf (env_at z.place) con.now)) ≡ Some k) }
+    ensures refused { IfRefused result (λ r. (home : ℕ) (z : Sofar) → Sees project.now home z → Refuses (datatype_names z) (BreaksCookie most_nodes z con.now) r) }
 {
     let of = written_type(alloc, project, con)?;
     match kind_of(&of) {
@@ -237,8 +237,8 @@ fn add_cookie(
 
 /// `cookie`.
 pub fn cookie_in(alloc: Global, project: &mut Project, name: &Text, con: &Con) -> Result<(), Stop>
-    ensures ok { OnOk result ((home : ℕ) (z : Sofar) → Sees project.old home z → Comes project.new home (cookie_out 65536 name.now con.now z)) }
-    ensures refused { IfRefused result (λ r. (home : ℕ) (z : Sofar) → Sees project.old home z → Refuses (datatype_names z) (BreaksCookie 65536 z con.now) r) }
+    ensures ok { OnOk result ((home : ℕ) (z : Sofar) → Sees project.old home z → Comes project.new home (cookie_out most_nodes name.now con.now z)) }
+    ensures refused { IfRefused result (λ r. (home : ℕ) (z : Sofar) → Sees project.old home z → Refuses (datatype_names z) (BreaksCookie most_nodes z con.now) r) }
 {
     let kind = cookie_kind(alloc, project, con)?;
     add_cookie(alloc, project, name, kind)?;

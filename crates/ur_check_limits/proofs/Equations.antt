@@ -6,6 +6,7 @@ use Rattle.ur_sql.specs.declared.scalar.Comparison.{Comparison}
 use Rattle.ur_sql.specs.declared.scalar.Scalar.{Scalar, more_of-Scalar as one, end_of-Scalar as end}
 use Rattle.ur_sql.specs.declared.scalar.Scalar.TheBlock as B
 use Rattle.ur_sql.specs.declared.scalar.Scalar.TheVariants as s
+use Rattle.ur_values.specs.declared.schema.ColumnKind.{ColumnKind}
 use Rattle.ur_values.specs.declared.value.Value.{Value}
 use Rattle.ur_sql.specs.Nodes.{scalar_nodes}
 
@@ -53,6 +54,14 @@ pub nodes-Neg : (a : Scalar) → scalar_nodes (s.Neg a) ≡ 1 + scalar_nodes a
 unfolding scalar_nodes B.hidden-the_row-Scalar-0 Carrier.hidden
 nodes-Neg a = refl
 
+pub nodes-Null : (k : ColumnKind) → scalar_nodes (s.Null k) ≡ 1
+unfolding scalar_nodes
+nodes-Null k = refl
+
+pub nodes-Present : (a : Scalar) → scalar_nodes (s.Present a) ≡ 1 + scalar_nodes a
+unfolding scalar_nodes B.hidden-the_row-Scalar-0 Carrier.hidden
+nodes-Present a = refl
+
 -- a scalar has a node
 some_node : (x : Scalar) → 0 < scalar_nodes x
 unfolding scalar_nodes
@@ -67,9 +76,11 @@ some_node (s.Add' _ (one a end) _ (one b end)) = omega arith
 some_node (s.Sub' _ (one a end) _ (one b end)) = omega arith
 some_node (s.Mul' _ (one a end) _ (one b end)) = omega arith
 some_node (s.Neg' _ (one a end)) = omega arith
+some_node (s.Null k) = omega arith
+some_node (s.Present' _ (one a end)) = omega arith
 
 -- where nothing is left
 pub nothing_left : (left : ℕ) (x : Scalar) → left < 1 → left < scalar_nodes x
 nothing_left left x h = let i : 0 < scalar_nodes x = some_node x in omega (arith, h, i)
 
-pub ruleset counted = (nothing_left, nodes-Constant, nodes-Column, nodes-Param, nodes-Or, nodes-And, nodes-Not, nodes-Compare, nodes-Add, nodes-Sub, nodes-Mul, nodes-Neg)
+pub ruleset counted = (nothing_left, nodes-Constant, nodes-Column, nodes-Param, nodes-Or, nodes-And, nodes-Not, nodes-Compare, nodes-Add, nodes-Sub, nodes-Mul, nodes-Neg, nodes-Null, nodes-Present)

@@ -42,6 +42,8 @@ fn after_scalar(of: &Scalar, left: u32) -> Option<u32>
                 after_scalar(b.get(), rest)
             }
             Scalar::Neg(a) => after_scalar(a.get(), within),
+            Scalar::Null(_) => Some(within),
+            Scalar::Present(a) => after_scalar(a.get(), within),
         },
     }
 }

@@ -5,3 +5,5 @@ pub mod Written
 pub mod Callees
 pub mod Capitals
 pub mod Peeling
+pub mod Telling
+pub mod Promises

@@ -10,6 +10,7 @@ ghost use Rattle.ur_typed_rules.specs.Scopes.{World as GhostWorld, Scope as Ghos
 ghost use Rattle.ur_typed.specs.Rules as rules;
 ghost use Rattle.ur_typed.specs.Rules.{Sites as GhostSites, Out as GhostOut};
 ghost use Rattle.ur_typed.specs.Causes.{BreaksSettled};
+ghost use Rattle.ur_check_rules.specs.Telling.{TellsBehind};
 ghost use Rattle.ur_check_scopes.specs.Views.{Stands, Refuses, mode_of};
 ghost use Rattle.ur_check_rules.specs.Views.{out_with};
 
@@ -116,7 +117,7 @@ pub fn settled(
     wanted: Option<&NormalType>,
 ) -> Result<Out, Stop>
     ensures settled { IfOk result (λ o. (w : GhostWorld) (s : GhostScope) (st : GhostSites) → Stands around.now w s → rules.settled w.most (mode_of (option_copied wanted.entry)) (out_with out st) ≡ Some (out_with o st)) }
-    ensures refused { IfRefused result (λ r. (w : GhostWorld) (s : GhostScope) (st : GhostSites) → Stands around.now w s → Refuses around.now.world.now.datatype_names (BreaksSettled around.now.world.now.datatype_names w (mode_of (option_copied wanted.entry)) (out_with out st)) r) }
+    ensures refused { IfRefused result (TellsBehind around.now (λ names w s st. BreaksSettled names w (mode_of (option_copied wanted.entry)) (out_with out st))) }
 {
     fits(alloc, around, span, &out.of, wanted)?;
     is_accepted(alloc, around, span, &out)?;

@@ -3,27 +3,20 @@ ghost use Rattle.std.specs.Prelude.{◌≡◌, true, ℕ, List as GhostList, IfO
 ghost use Rattle.std.specs.List.{list_any};
 ghost use Rattle.std.specs.Option.{option_copied};
 ghost use Rattle.ur_base.specs.Stopping.{IfRefused};
-ghost use Rattle.ur_base.specs.Shape.{Shape as GhostShape, count};
-ghost use Rattle.ur_base.specs.declared.refusal.Span.{Span as GhostSpan};
-ghost use Rattle.ur_syntax.specs.declared.con.FieldName.{FieldName as GhostFieldName};
-ghost use Rattle.ur_syntax.specs.declared.exp.Removed.{Removed as GhostRemoved};
-ghost use Rattle.ur_syntax.specs.declared.exp.ExpForm.{ExpForm as GhostForm, Row_of-Field, end_of-Exp as alone, more_of-Exp as its};
 ghost use Rattle.ur_syntax.specs.declared.exp.ExpForm.TheVariants as e;
 ghost use Rattle.ur_rows.specs.declared.normal.Part.{Part as GhostPart};
 ghost use Rattle.ur_rows.specs.Apart.{Assumptions as GhostAssumptions};
 ghost use Rattle.ur_typed_rules.specs.Names.{is_named};
-ghost use Rattle.ur_typed_rules.specs.Scopes.{World as GhostWorld, Scope as GhostScope, Mode as GhostMode, finds};
+ghost use Rattle.ur_typed_rules.specs.Scopes.{World as GhostWorld, Scope as GhostScope};
 ghost use Rattle.ur_typed_rules.specs.Tests.{are_apart};
-ghost use Rattle.ur_typed_rules.specs.Repeats.{twice_of, literal_name, literal_names};
+ghost use Rattle.ur_typed_rules.specs.Repeats.{twice_of, literal_name};
 ghost use Rattle.ur_typed_rules.specs.Arguments.{BreaksFields};
 ghost use Rattle.ur_typed_rules.specs.Faults as faults;
-ghost use Rattle.ur_typed_rules.specs.Rules.{label_at};
 ghost use Rattle.ur_typed.specs.Rules as rules;
-ghost use Rattle.ur_typed.specs.Rules.{Sites as GhostSites, Walk as GhostWalk};
-ghost use Rattle.ur_typed.specs.Walking.{typed, fields_walk};
-ghost use Rattle.ur_typed.specs.Causes.{Breaks};
+ghost use Rattle.ur_typed.specs.Rules.{Sites as GhostSites};
 ghost use Rattle.ur_check_scopes.specs.Given.{again};
 ghost use Rattle.ur_check_scopes.specs.Views.{Stands, Refuses, StopIs, StopTells, env_in};
+ghost use Rattle.ur_check_rules.specs.Promises.{TellsRecord, GivesProjection, TellsProjection, GivesCut, TellsCut};
 ghost use Rattle.ur_check_rules.specs.Views.{out_with, row_with, fields_with};
 ghost use Rattle.ur_check_rules.specs.Written.{written_names};
 ghost use Rattle.ur_check_rules.specs.Fields.{field_in, row_cut, BreaksField, BreaksRecord};
@@ -139,7 +132,7 @@ pub fn record_out(
     fields: List<FieldExp>,
 ) -> Result<Out, Stop>
     ensures made { IfOk result (λ o. (w : GhostWorld) (s : GhostScope) (st : GhostSites) → Stands around.now w s → rules.record_out s (Some (fields_with parts fields st)) ≡ Some (out_with o st)) }
-    ensures refused { IfRefused result (λ r. (w : GhostWorld) (s : GhostScope) (before after : GhostSites) (m : GhostMode) (q : GhostShape) (row : Row_of-Field (count q)) → Stands around.now w s → literal_names row ≡ written_names written.now → fields_walk w row s before m ≡ Some (fields_with parts fields after) → Refuses around.now.world.now.datatype_names (Breaks around.now.world.now.datatype_names w s before (e.Record' q row) m) r) }
+    ensures refused { IfRefused result (TellsRecord around.now written.now parts fields) }
 {
     let row = row_with(alloc, parts)?;
     are_apart(alloc, around, span, written, row.as_slice())?;
@@ -195,8 +188,8 @@ pub fn project_out(
     label: Label,
     out: Out,
 ) -> Result<Out, Stop>
-    ensures projected { IfOk result (λ o. (s : GhostScope) (before after : GhostSites) (f : GhostFieldName) (a : GhostWalk) → label ≡ label_at s f → a s before finds ≡ Some (out_with out after) → rules.project_out s before f a ≡ Some (out_with o after)) }
-    ensures refused { IfRefused result (λ r. (w : GhostWorld) (s : GhostScope) (before after : GhostSites) (m : GhostMode) (p : GhostSpan) (x : GhostForm) (f : GhostFieldName) → label ≡ label_at s f → typed w x s before finds ≡ Some (out_with out after) → Refuses around.now.world.now.datatype_names (Breaks around.now.world.now.datatype_names w s before (e.Project' tt (its p x alone) f) m) r) }
+    ensures projected { IfOk result (GivesProjection label out) }
+    ensures refused { IfRefused result (TellsProjection around.now label out) }
 {
     let of = type_in(alloc, around, span, &label, &out.of)?;
     let exp = Boxed::new(alloc, Exp::Project(out.exp, label))?;
@@ -234,8 +227,8 @@ pub fn cut_out(
     label: Label,
     out: Out,
 ) -> Result<Out, Stop>
-    ensures cut { IfOk result (λ o. (s : GhostScope) (before after : GhostSites) (f : GhostFieldName) (a : GhostWalk) → label ≡ label_at s f → a s before finds ≡ Some (out_with out after) → rules.cut_out s before f a ≡ Some (out_with o after)) }
-    ensures refused { IfRefused result (λ r. (w : GhostWorld) (s : GhostScope) (before after : GhostSites) (m : GhostMode) (p : GhostSpan) (x : GhostForm) (c : GhostRemoved) → label ≡ label_at s c.name → typed w x s before finds ≡ Some (out_with out after) → Refuses around.now.world.now.datatype_names (Breaks around.now.world.now.datatype_names w s before (e.Remove' tt (its p x alone) c) m) r) }
+    ensures cut { IfOk result (GivesCut label out) }
+    ensures refused { IfRefused result (TellsCut around.now label out) }
 {
     let row = row_without(alloc, around, span, &label, &out.of)?;
     let exp = Boxed::new(alloc, Exp::Cut(out.exp, label))?;

@@ -1,10 +1,6 @@
 //! Forms with one side and with two.
-ghost use Rattle.std.specs.Prelude.{◌≡◌, true, IfOk, Some, codes};
+ghost use Rattle.std.specs.Prelude.{◌≡◌, IfOk, Some, codes};
 ghost use Rattle.ur_base.specs.Stopping.{IfRefused};
-ghost use Rattle.ur_base.specs.declared.refusal.Span.{Span as GhostSpan};
-ghost use Rattle.ur_syntax.specs.declared.exp.Binary.{Binary as GhostWritten};
-ghost use Rattle.ur_syntax.specs.declared.exp.ExpForm.{ExpForm as GhostForm, end_of-Exp as alone, more_of-Exp as its};
-ghost use Rattle.ur_syntax.specs.declared.exp.ExpForm.TheVariants as e;
 ghost use Rattle.ur_rows.specs.declared.normal.NormalType.{NormalType as GhostType};
 ghost use Rattle.ur_rows.specs.declared.normal.NormalType.TheVariants as ty;
 ghost use Rattle.ur_rows.specs.Made.{record_of};
@@ -14,13 +10,13 @@ ghost use Rattle.ur_typed_rules.specs.Tests.{is_apart};
 ghost use Rattle.ur_tree.specs.declared.exp.Unary.TheVariants as unary;
 ghost use Rattle.ur_tree.specs.Make as make;
 ghost use Rattle.ur_tree.specs.Typing as typing;
-ghost use Rattle.ur_typed_rules.specs.Scopes.{World as GhostWorld, Scope as GhostScope, Mode as GhostMode, finds, wants, of_option, of_transaction};
+ghost use Rattle.ur_typed_rules.specs.Scopes.{Scope as GhostScope, Mode as GhostMode, finds, wants, of_option, of_transaction};
 ghost use Rattle.ur_typed_rules.specs.Faults as faults;
 ghost use Rattle.ur_typed.specs.Rules as rules;
 ghost use Rattle.ur_typed.specs.Rules.{Sites as GhostSites, Walk as GhostWalk};
 ghost use Rattle.ur_typed.specs.Walking.{typed};
-ghost use Rattle.ur_typed.specs.Causes.{Breaks};
-ghost use Rattle.ur_check_scopes.specs.Views.{Stands, Refuses, StopIs, env_in};
+ghost use Rattle.ur_check_scopes.specs.Views.{Refuses, StopIs, env_in};
+ghost use Rattle.ur_check_rules.specs.Promises.{GivesSides, TellsSides, TellsShow};
 ghost use Rattle.ur_check_rules.specs.Views.{out_with, operation_in};
 ghost use Rattle.ur_check_rules.specs.Sides.{BreaksJoined, BreaksJoin, BreaksOperation};
 
@@ -63,7 +59,7 @@ fn not_basic(alloc: Global, around: &Around, span: Span, of: &NormalType) -> Sto
 /// `show e`.
 pub fn show_out(alloc: Global, around: &Around, span: Span, out: Out) -> Result<Out, Stop>
     ensures shown { IfOk result (λ o. (s : GhostScope) (before after : GhostSites) (a : GhostWalk) → a s before finds ≡ Some (out_with out after) → rules.show_out s before a ≡ Some (out_with o after)) }
-    ensures refused { IfRefused result (λ r. (w : GhostWorld) (s : GhostScope) (before after : GhostSites) (m : GhostMode) (p : GhostSpan) (x : GhostForm) → typed w x s before finds ≡ Some (out_with out after) → Refuses around.now.world.now.datatype_names (Breaks around.now.world.now.datatype_names w s before (e.Show' tt (its p x alone)) m) r) }
+    ensures refused { IfRefused result (TellsShow around.now out) }
 {
     if is_basic(&out.of) {
         let made = shown(alloc, out)?;
@@ -224,8 +220,8 @@ pub fn sides_out(
     left: Out,
     right: Out,
 ) -> Result<Out, Stop>
-    ensures joined { IfOk result (λ o. (w : GhostWorld) (s : GhostScope) (before between after : GhostSites) (m : GhostMode) (a b : GhostWalk) → Stands around.now w s → operation_in operation.now ≡ typing.operation op → a s before (rules.left_mode (typing.operation op) m) ≡ Some (out_with left between) → rules.left_may (typing.operation op) left.of ≡ true → b s between (rules.right_mode (typing.operation op) left.of) ≡ Some (out_with right after) → rules.sides_out op s before m a b ≡ Some (out_with o after)) }
-    ensures refused { IfRefused result (λ r. (w : GhostWorld) (s : GhostScope) (before between after : GhostSites) (m : GhostMode) (written : GhostWritten) (p q : GhostSpan) (x y : GhostForm) → Stands around.now w s → rules.operator_of written ≡ op → operation_in operation.now ≡ typing.operation op → typed w x s before (rules.left_mode (typing.operation op) m) ≡ Some (out_with left between) → typed w y s between (rules.right_mode (typing.operation op) left.of) ≡ Some (out_with right after) → Refuses around.now.world.now.datatype_names (Breaks around.now.world.now.datatype_names w s before (e.Binary' written tt (its p x alone) tt (its q y alone)) m) r) }
+    ensures joined { IfOk result (GivesSides around.now op operation.now left right) }
+    ensures refused { IfRefused result (TellsSides around.now op operation.now left right) }
 {
     let of = operation_type(alloc, around, spans, operation, &left.of, &right.of)?;
     let exp = binary_of(alloc, op, left.exp, right.exp)?;

@@ -7,7 +7,7 @@ ghost use Rattle.ur_rows.specs.declared.normal.NormalType.{NormalType as GhostTy
 ghost use Rattle.ur_rows.specs.declared.normal.NormalType.TheVariants as ty;
 ghost use Rattle.ur_tree.specs.declared.exp.Exp.TheVariants as exp;
 ghost use Rattle.ur_typed_rules.specs.Names.{declared};
-ghost use Rattle.ur_typed_rules.specs.Scopes.{World as GhostWorld, Scope as GhostScope, Mode as GhostMode};
+ghost use Rattle.ur_typed_rules.specs.Scopes.{World as GhostWorld, Scope as GhostScope};
 ghost use Rattle.ur_typed_rules.specs.Faults as faults;
 ghost use Rattle.ur_typed_rules.specs.Faults.{TellsType};
 ghost use Rattle.ur_tree.specs.Text as texts;
@@ -15,6 +15,7 @@ ghost use Rattle.ur_typed.specs.Rules as rules;
 ghost use Rattle.ur_typed.specs.Rules.{Sites as GhostSites};
 ghost use Rattle.ur_typed.specs.Faults.{missing_argument, no_further, BreaksHead};
 ghost use Rattle.ur_typed.specs.Causes.{Breaks};
+ghost use Rattle.ur_check_rules.specs.Telling.{TellsAnywhere, TellsBehind, TellsIn};
 ghost use Rattle.ur_check_scopes.specs.Views.{Stands, Refuses, StopIs, key_in, mode_of};
 ghost use Rattle.ur_check_rules.specs.Views.{out_with};
 ghost use Rattle.ur_check_rules.specs.Capitals.{capital_in};
@@ -55,7 +56,7 @@ fn capital_of(x: &[u8]) -> Capital
 /// The number of the constructor of a datatype that is named so.
 fn number_of(alloc: Global, around: &Around, span: Span, key: &Key) -> Result<u32, Stop>
     ensures number { IfOk result (λ n. (w : GhostWorld) (s : GhostScope) → Stands around.now w s → declared w.globals (key_in key.now) w.globals.constructors ≡ Some n) }
-    ensures refused { IfRefused result (λ r. (w : GhostWorld) (s : GhostScope) → Stands around.now w s → Refuses around.now.world.now.datatype_names (IsNoTag w (key_in key.now)) r) }
+    ensures refused { IfRefused result (TellsIn around.now (λ _ w s. IsNoTag w (key_in key.now))) }
 {
     let home = around.world.env.home.as_slice();
     match seen(home, around.world.constructors.as_slice(), key) {
@@ -86,7 +87,7 @@ fn variant_out(alloc: Global, span: Span, number: u32, variant: &Variant) -> Res
 /// A constructor that stands alone has no argument.
 fn tagged_out(alloc: Global, around: &Around, span: Span, key: &Key) -> Result<Out, Stop>
     ensures tagged { IfOk result (λ o. (w : GhostWorld) (s : GhostScope) (st : GhostSites) → Stands around.now w s → option_and_then (rules.tagged_out w st) (declared w.globals (key_in key.now) w.globals.constructors) ≡ Some (out_with o st)) }
-    ensures refused { IfRefused result (λ r. (w : GhostWorld) (s : GhostScope) → Stands around.now w s → Refuses around.now.world.now.datatype_names (BreaksTag w (key_in key.now)) r) }
+    ensures refused { IfRefused result (TellsIn around.now (λ _ w s. BreaksTag w (key_in key.now))) }
 {
     let number = number_of(alloc, around, span, key)?;
     match around.world.variants.get(number as usize) {
@@ -191,7 +192,7 @@ pub fn constructor_out(
     wanted: Option<&NormalType>,
 ) -> Result<Out, Stop>
     ensures named { IfOk result (λ o. (w : GhostWorld) (s : GhostScope) (st : GhostSites) → Stands around.now w s → rules.constructor_out w st (mode_of (option_copied wanted.entry)) x.now ≡ Some (out_with o st)) }
-    ensures refused { IfRefused result (λ r. (w : GhostWorld) (s : GhostScope) (st : GhostSites) → Stands around.now w s → Refuses around.now.world.now.datatype_names (Breaks around.now.world.now.datatype_names w s st (e.Constructor x.now) (mode_of (option_copied wanted.entry))) r) }
+    ensures refused { IfRefused result (TellsBehind around.now (λ names w s st. Breaks names w s st (e.Constructor x.now) (mode_of (option_copied wanted.entry)))) }
 {
     match capital_of(x) {
         Capital::True => bool_out(alloc, true),
@@ -210,7 +211,7 @@ pub fn member_constructor_out(
     x: &[u8],
 ) -> Result<Out, Stop>
     ensures named { IfOk result (λ o. (w : GhostWorld) (s : GhostScope) (st : GhostSites) → Stands around.now w s → rules.member_constructor_out w st m.now x.now ≡ Some (out_with o st)) }
-    ensures refused { IfRefused result (λ r. (w : GhostWorld) (s : GhostScope) (st : GhostSites) (mode : GhostMode) → Stands around.now w s → Refuses around.now.world.now.datatype_names (Breaks around.now.world.now.datatype_names w s st (e.MemberConstructor m.now x.now) mode) r) }
+    ensures refused { IfRefused result (TellsAnywhere around.now (λ names w s st mode. Breaks names w s st (e.MemberConstructor m.now x.now) mode)) }
 {
     tagged_out(alloc, around, span, &Key::Member(m, x))
 }
@@ -218,7 +219,7 @@ pub fn member_constructor_out(
 /// The constructor of a datatype that a bare name is. A word that takes no argument may not stand there.
 fn own_tag(alloc: Global, around: &Around, span: Span, x: &[u8]) -> Result<Option<u32>, Stop>
     ensures tag { IfOk result (λ n. (w : GhostWorld) (s : GhostScope) → Stands around.now w s → MayBeTag w (e.Constructor x.now) n) }
-    ensures refused { IfRefused result (λ r. (w : GhostWorld) (s : GhostScope) → Stands around.now w s → Refuses around.now.world.now.datatype_names (BreaksHead w (e.Constructor x.now)) r) }
+    ensures refused { IfRefused result (TellsIn around.now (λ _ w s. BreaksHead w (e.Constructor x.now))) }
 {
     match capital_of(x) {
         Capital::Other => {
@@ -245,7 +246,7 @@ fn member_tag(
     x: &[u8],
 ) -> Result<Option<u32>, Stop>
     ensures tag { IfOk result (λ n. (w : GhostWorld) (s : GhostScope) → Stands around.now w s → MayBeTag w (e.MemberConstructor m.now x.now) n) }
-    ensures refused { IfRefused result (λ r. (w : GhostWorld) (s : GhostScope) → Stands around.now w s → Refuses around.now.world.now.datatype_names (BreaksHead w (e.MemberConstructor m.now x.now)) r) }
+    ensures refused { IfRefused result (TellsIn around.now (λ _ w s. BreaksHead w (e.MemberConstructor m.now x.now))) }
 {
     let number = number_of(alloc, around, span, &Key::Member(m, x))?;
     Ok(Some(number))
@@ -254,7 +255,7 @@ fn member_tag(
 /// The constructor of a datatype that stands at the head of an application, if one does.
 pub fn tag_of(alloc: Global, around: &Around, e: &Written) -> Result<Option<u32>, Stop>
     ensures tag { IfOk result (λ n. (w : GhostWorld) (s : GhostScope) → Stands around.now w s → MayBeTag w e.now.form n) }
-    ensures refused { IfRefused result (λ r. (w : GhostWorld) (s : GhostScope) → Stands around.now w s → Refuses around.now.world.now.datatype_names (BreaksHead w e.now.form) r) }
+    ensures refused { IfRefused result (TellsIn around.now (λ _ w s. BreaksHead w e.now.form)) }
 {
     match &e.form {
         ExpForm::Constructor(x) => {

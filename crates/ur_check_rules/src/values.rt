@@ -19,6 +19,7 @@ ghost use Rattle.ur_typed.specs.Rules as rules;
 ghost use Rattle.ur_typed.specs.Rules.{Sites as GhostSites};
 ghost use Rattle.ur_typed.specs.Faults.{given_to, is_given};
 ghost use Rattle.ur_typed.specs.Causes.{Breaks};
+ghost use Rattle.ur_check_rules.specs.Telling.{TellsAnywhere, TellsIn};
 ghost use Rattle.ur_check_scopes.specs.Views.{Stands, StandsFor, Refuses, means_in, key_in, head_in};
 ghost use Rattle.ur_check_rules.specs.Views.{out_with};
 ghost use Rattle.ur_check_rules.specs.Peeling.{Peels};
@@ -225,7 +226,7 @@ fn meant_out(alloc: Global, around: &Around, span: Span, means: Means) -> Result
 /// `x`: the nearest local of that name, or else the module's own declaration.
 pub fn var_out(alloc: Global, around: &Around, span: Span, x: &[u8]) -> Result<Out, Stop>
     ensures named { IfOk result (λ o. (w : GhostWorld) (s : GhostScope) (st : GhostSites) → Stands around.now w s → rules.var_out w s st x.now ≡ Some (out_with o st)) }
-    ensures refused { IfRefused result (λ r. (w : GhostWorld) (s : GhostScope) (st : GhostSites) (m : GhostMode) → Stands around.now w s → Refuses around.now.world.now.datatype_names (Breaks around.now.world.now.datatype_names w s st (e.Var x.now) m) r) }
+    ensures refused { IfRefused result (TellsAnywhere around.now (λ names w s st m. Breaks names w s st (e.Var x.now) m)) }
 {
     let found = local_at(&around.scope.locals, x)?;
     match found {
@@ -243,7 +244,7 @@ pub fn member_out(
     x: &[u8],
 ) -> Result<Out, Stop>
     ensures named { IfOk result (λ o. (w : GhostWorld) (s : GhostScope) (st : GhostSites) → Stands around.now w s → rules.member_out w s st m.now x.now ≡ Some (out_with o st)) }
-    ensures refused { IfRefused result (λ r. (w : GhostWorld) (s : GhostScope) (st : GhostSites) (mode : GhostMode) → Stands around.now w s → Refuses around.now.world.now.datatype_names (Breaks around.now.world.now.datatype_names w s st (e.Member m.now x.now) mode) r) }
+    ensures refused { IfRefused result (TellsAnywhere around.now (λ names w s st mode. Breaks names w s st (e.Member m.now x.now) mode)) }
 {
     declared_out(alloc, around, span, &Key::Member(m, x))
 }
@@ -317,7 +318,7 @@ fn with_argument<'e>(
     ensures at { IfOk result (λ a. (w : GhostWorld) (s : GhostScope) → Stands around.now w s → rules.with_argument w s con.now (applied.entry.number, applied.entry.args) ≡ Some (a.number, a.args)) }
     ensures given { IfOk result (λ a. map (λ c. c.now) a.given ≡ map (λ c. c.now) applied.entry.given ++ con.now ∷ []) }
     ensures ordered { IfOk result (λ a. (w : GhostWorld) (s : GhostScope) → Stands around.now w s → are_normal applied.entry.args ≡ true → are_normal a.args ≡ true) }
-    ensures refused { IfRefused result (λ r. (w : GhostWorld) (s : GhostScope) → Stands around.now w s → Refuses around.now.world.now.datatype_names (λ x. (x ≡ too_large) × (nat_le (nodes (nf s.names.cons con.now)) w.most ≡ false)) r) }
+    ensures refused { IfRefused result (TellsIn around.now (λ _ w s. λ x. (x ≡ too_large) × (nat_le (nodes (nf s.names.cons con.now)) w.most ≡ false))) }
 {
     let form = normal_at(alloc, &around.scope.cons, con)?;
     let mut applied = applied;
@@ -336,7 +337,7 @@ fn with_arguments<'e>(
     ensures at { IfOk result (λ a. (w : GhostWorld) (s : GhostScope) → Stands around.now w s → with_back w s (map (λ c. c.now) back.entry) (Some (number, [])) ≡ Some (a.number, a.args)) }
     ensures given { IfOk result (λ a. map (λ c. c.now) a.given ≡ reverse (map (λ c. c.now) back.entry)) }
     ensures ordered { IfOk result (λ a. (w : GhostWorld) (s : GhostScope) → Stands around.now w s → are_normal a.args ≡ true) }
-    ensures refused { IfRefused result (λ r. (w : GhostWorld) (s : GhostScope) → Stands around.now w s → Refuses around.now.world.now.datatype_names (BreaksBack w s (Some (number, [])) (map (λ c. c.now) back.entry)) r) }
+    ensures refused { IfRefused result (TellsIn around.now (λ _ w s. BreaksBack w s (Some (number, [])) (map (λ c. c.now) back.entry))) }
 {
     let mut applied = without_arguments(alloc, number);
     let mut back = back;
@@ -353,7 +354,7 @@ pub fn applied_at<'e>(
     e: &'e Written,
 ) -> Result<Option<Applied<'e>>, Stop>
     ensures applied { IfOk result (λ a. (w : GhostWorld) (s : GhostScope) → Stands around.now w s → MayBeApplied w s e.now.form a) }
-    ensures refused { IfRefused result (λ r. (w : GhostWorld) (s : GhostScope) → Stands around.now w s → Refuses around.now.world.now.datatype_names (BreaksGivenTo w s e.now.form) r) }
+    ensures refused { IfRefused result (TellsIn around.now (λ _ w s. BreaksGivenTo w s e.now.form)) }
 {
     let (head, back) = given_to(alloc, e)?;
     let named = function_named(around, head)?;
@@ -369,7 +370,7 @@ pub fn applied_at<'e>(
 /// What is applied.
 pub fn callee_of<'e>(alloc: Global, around: &Around, e: &'e Written) -> Result<Callee<'e>, Stop>
     ensures callee { IfOk result (λ c. (w : GhostWorld) (s : GhostScope) → Stands around.now w s → IsCallee w s e.now.form c) }
-    ensures refused { IfRefused result (λ r. (w : GhostWorld) (s : GhostScope) → Stands around.now w s → Refuses around.now.world.now.datatype_names (BreaksCallee w s e.now.form) r) }
+    ensures refused { IfRefused result (TellsIn around.now (λ _ w s. BreaksCallee w s e.now.form)) }
 {
     let function = applied_at(alloc, around, e)?;
     match function {

@@ -1,5 +1,6 @@
 -- What the code holds of a project and of a scope, as the definitions of typing see it.
 use Rattle.std.specs.Prelude.{◌≡◌, ℕ, ◌+◌, ⊤, true, false, if◌then◌else◌, List, [], ◌∷◌, ◌++◌, map, length, Option, Some, None, slice_get, codes}
+use Rattle.ur_rows.specs.Nodes.{most_nodes}
 use Rattle.ur_base.specs.Stopping.{Says}
 use Rattle.ur_base.specs.declared.refusal.Refusal.{Refusal}
 use Rattle.ur_base.specs.declared.refusal.Stop.{Stop}
@@ -81,7 +82,7 @@ declared_in w = record {
 }
 
 abbrev pub world_in : Held → World
-world_in w = record { globals = globals_in w; declared = declared_in w; fields = w.env.fields; most = 65536 }
+world_in w = record { globals = globals_in w; declared = declared_in w; fields = w.env.fields; most = most_nodes }
 
 -- ---- names that expressions bind
 

@@ -1,5 +1,6 @@
 //! Parameters with written types.
 ghost use Rattle.std.specs.Prelude.{◌≡◌, true, false, [], ◌∷◌, map, IfOk, OnOk, Some};
+ghost use Rattle.ur_rows.specs.Nodes.{most_nodes};
 ghost use Rattle.ur_base.specs.Stopping.{IfRefused};
 ghost use Rattle.ur_syntax.specs.declared.exp.Param.TheVariants as written_param;
 ghost use Rattle.ur_rows_normal.specs.Preparing.{Reads};
@@ -54,8 +55,8 @@ pub fn local_of(name: Option<Text>, of: NormalType) -> Local
 
 /// A parameter with its written type.
 pub fn param_out(alloc: Global, cons: &Cons, param: &WrittenParam) -> Result<Local, Stop>
-    ensures param { IfOk result (λ l. (names : GhostNames) → Reads cons.now.names names.cons → param_out 65536 names param.now ≡ Some (local_in l, param_in l)) }
-    ensures refused { IfRefused result (λ r. IsLarge r × ((names : GhostNames) → Reads cons.now.names names.cons → HasLarge 65536 names param.now)) }
+    ensures param { IfOk result (λ l. (names : GhostNames) → Reads cons.now.names names.cons → param_out most_nodes names param.now ≡ Some (local_in l, param_in l)) }
+    ensures refused { IfRefused result (λ r. IsLarge r × ((names : GhostNames) → Reads cons.now.names names.cons → HasLarge most_nodes names param.now)) }
 {
     match param {
         WrittenParam::Value(x, con) => value_out(alloc, cons, x, con),
@@ -69,8 +70,8 @@ pub fn param_out(alloc: Global, cons: &Cons, param: &WrittenParam) -> Result<Loc
 
 /// A parameter for a value, with its written type.
 fn value_out(alloc: Global, cons: &Cons, x: &Binder, con: &Con) -> Result<Local, Stop>
-    ensures param { IfOk result (λ l. (names : GhostNames) → Reads cons.now.names names.cons → param_out 65536 names (written_param.Value x.now con.now) ≡ Some (local_in l, param_in l)) }
-    ensures refused { IfRefused result (λ r. IsLarge r × ((names : GhostNames) → Reads cons.now.names names.cons → HasLarge 65536 names (written_param.Value x.now con.now))) }
+    ensures param { IfOk result (λ l. (names : GhostNames) → Reads cons.now.names names.cons → param_out most_nodes names (written_param.Value x.now con.now) ≡ Some (local_in l, param_in l)) }
+    ensures refused { IfRefused result (λ r. IsLarge r × ((names : GhostNames) → Reads cons.now.names names.cons → HasLarge most_nodes names (written_param.Value x.now con.now))) }
 {
     let form = normal_at(alloc, cons, con)?;
     let name = bound_name(alloc, x)?;
@@ -84,8 +85,8 @@ fn lambda_param_out(
     span: Span,
     param: &LambdaParam,
 ) -> Result<Local, Stop>
-    ensures param { IfOk result (λ l. (names : GhostNames) → Reads cons.now.names names.cons → params_out 65536 names (param.now ∷ []) ≡ Some (local_in l ∷ [], param_in l ∷ [])) }
-    ensures refused { IfRefused result (λ r. (names : GhostNames) → Reads cons.now.names names.cons → Refuses [] (BreaksForms 65536 names (param.now ∷ [])) r) }
+    ensures param { IfOk result (λ l. (names : GhostNames) → Reads cons.now.names names.cons → params_out most_nodes names (param.now ∷ []) ≡ Some (local_in l ∷ [], param_in l ∷ [])) }
+    ensures refused { IfRefused result (λ r. (names : GhostNames) → Reads cons.now.names names.cons → Refuses [] (BreaksForms most_nodes names (param.now ∷ [])) r) }
 {
     match param {
         LambdaParam::Typed(p) => param_out(alloc, cons, p),
@@ -101,8 +102,8 @@ pub fn params_out(
     span: Span,
     params: &[LambdaParam],
 ) -> Result<List<Local>, Stop>
-    ensures params { IfOk result (λ ls. (names : GhostNames) → Reads cons.now.names names.cons → params_out 65536 names params.now ≡ Some (map local_in ls, map param_in ls)) }
-    ensures refused { IfRefused result (λ r. (names : GhostNames) → Reads cons.now.names names.cons → Refuses [] (BreaksForms 65536 names params.now) r) }
+    ensures params { IfOk result (λ ls. (names : GhostNames) → Reads cons.now.names names.cons → params_out most_nodes names params.now ≡ Some (map local_in ls, map param_in ls)) }
+    ensures refused { IfRefused result (λ r. (names : GhostNames) → Reads cons.now.names names.cons → Refuses [] (BreaksForms most_nodes names params.now) r) }
 {
     let mut locals = List::new(alloc);
     for i in 0..params.len() {
@@ -210,7 +211,7 @@ pub fn are_params(
     params: &[LambdaParam],
     locals: &[Local],
 ) -> Result<(), Stop>
-    ensures ok { OnOk result ((names : GhostNames) → params_out 65536 names params.now ≡ Some (map local_in locals.now, map param_in locals.now) → are_params (env_in around.now.scope.cons) (map param_in locals.now) ≡ true) }
+    ensures ok { OnOk result ((names : GhostNames) → params_out most_nodes names params.now ≡ Some (map local_in locals.now, map param_in locals.now) → are_params (env_in around.now.scope.cons) (map param_in locals.now) ≡ true) }
     ensures refused { IfRefused result (Refuses around.now.world.now.datatype_names (BreaksParameters (env_in around.now.scope.cons) params.now (map param_in locals.now))) }
 {
     for i in 0..params.len() {

@@ -1,5 +1,6 @@
 //! Refusals of the step of types, by their codes and texts.
-ghost use Rattle.std.specs.Prelude.{IfOk, List as GhostList, ℕ};
+ghost use Rattle.std.specs.Prelude.{IfOk, IsTrue, List as GhostList, ℕ};
+ghost use Rattle.ur_base.specs.Codes.{is_refusal_code};
 ghost use Rattle.ur_base.specs.Stopping.{Says};
 ghost use Rattle.ur_typed_rules.specs.Faults as faults;
 ghost use Rattle.ur_tree.specs.Text as texts;
@@ -11,6 +12,7 @@ use ur_rows::{NormalType, Part};
 use ur_tree::{apart_from, row_text, type_text};
 
 fn told(alloc: Global, code: u8, span: Span, left: &[u8], right: &[u8]) -> Result<Refusal, Memory>
+    requires { IsTrue (is_refusal_code code) }
     ensures { IfOk result (λ r. Says r code left.now right.now) }
 {
     let left = List::from_slice(alloc, left)?;
@@ -25,6 +27,7 @@ fn told(alloc: Global, code: u8, span: Span, left: &[u8], right: &[u8]) -> Resul
 
 /// The second text is told apart from the first.
 fn of_two(alloc: Global, code: u8, span: Span, left: &[u8], right: &[u8]) -> Result<Refusal, Memory>
+    requires { IsTrue (is_refusal_code code) }
     ensures { IfOk result (λ r. Says r code left.now (texts.apart_from left.now right.now)) }
 {
     let right = apart_from(alloc, left, right)?;
@@ -124,6 +127,7 @@ fn of_type(
     found: &NormalType,
     wanted: &[u8],
 ) -> Result<Refusal, Memory>
+    requires { IsTrue (is_refusal_code code) }
     ensures { IfOk result (λ r. Says r code (texts.type_text names.now found.now) (texts.apart_from (texts.type_text names.now found.now) wanted.now)) }
 {
     let found = type_text(alloc, names, found)?;

@@ -17,12 +17,13 @@ use std::alloc::Global;
 use std::slice;
 use ur_base::{List, Memory, Span, Stop};
 use ur_check_forms::{
-    Antiquotes, ask_out, change_slot, cookie_at, cookie_value, each_out, kind_type, query_at,
-    query_slot, row_param, set_cookie_out, write_out,
+    Antiquotes, ask_out, change_slot, cookie_at, cookie_value, each_out, query_at, query_slot,
+    row_param, set_cookie_out, write_out,
 };
 use ur_check_rules::{Out, Sites, pushed};
 use ur_check_scopes::{Around, binder_local, not_so, of_transaction};
 use ur_rows::{Normal, NormalType, Part};
+use ur_sqltype::kind_type;
 use ur_syntax::{DeclName, Exp, ExpForm, LambdaParam, QueryWord, SqlChange, SqlQuery};
 
 /// `setCookie c {Value = e, Expires = None, Secure = False}`.
@@ -40,7 +41,7 @@ pub fn set_cookie(
 {
     let cookie = cookie_at(alloc, around, name)?;
     let e = cookie_value(alloc, value)?;
-    let of = kind_type(cookie.kind);
+    let of = kind_type(alloc, cookie.kind)?;
     let out = typed(alloc, around, sites, e, Some(&of))?;
     let made = set_cookie_out(alloc, cookie, out)?;
     Ok(made)

@@ -20,7 +20,7 @@ use Rattle.ur_terms.specs.declared.term.Term.TheVariants as t
 use Rattle.ur_terms.specs.State.{State, Done, Spent}
 use Rattle.ur_terms.specs.Types.{FitsFunction, scalar_int, alike, xml_page}
 use Rattle.ur_code.specs.declared.code.Code.{Code}
-use Rattle.ur_code.specs.Fits.{Fits, signature}
+use Rattle.ur_code.specs.Fits.{Fits, IsBasicCookie, signature}
 use Rattle.ur_code.specs.Meaning.{outcome}
 use Rattle.ur_code.specs.RouteTypes.{IsRequestOf}
 use Rattle.ur_code.specs.Sound.{FitsState, IsSound}
@@ -99,6 +99,7 @@ small_fits = record {
   changes = All-from_recursion (ChangeFits small.schema) [] tt;
   routes = (record { function = main; is_function = refl; params = refl; page = refl; no_form = λ e. refl }, tt);
   tables = All-from_recursion _ [] tt;
+  cookies = All-from_recursion IsBasicCookie [] tt;
 }
 
 abbrev call : Call

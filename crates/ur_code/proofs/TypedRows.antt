@@ -25,6 +25,7 @@ use Rattle.ur_sql.specs.declared.query.Aggregate.TheVariants as agg
 use Rattle.ur_sql.specs.Answer.{Combination, first_of, plus, better, as_option, aggregate_of, field_of}
 use Rattle.ur_sql.specs.Scalar.{value_of, column_at}
 use Rattle.ur_sql.specs.Typing.{Kinds, column_kind, HasKind, AggregateFits, FieldFits, FieldReadsOnly}
+use Rattle.ur_sql.proofs.HeadKinds.{head_is}
 use Rattle.ur_sql.proofs.Members.{In}
 use Rattle.ur_sql.proofs.Typed.{item_fits, cell_fits, value_fits}
 use Rattle.ur_terms.specs.Types.{record_type}
@@ -34,7 +35,7 @@ use Rattle.ur_terms.proofs.Ints.{int_sum}
 use Rattle.std.proofs.lemmas.List.Elements.{recursion_from_All}
 use Rattle.ur_code.specs.RowType.{kind_type, both_there, all_there, column_type, aggregate_type, field_type}
 use Rattle.ur_code.proofs.KindTypes.{kind_value}
-use Rattle.ur_code.proofs.TypedScalars.{kind_there, none_in, scalar_fits}
+use Rattle.ur_code.proofs.TypedScalars.{none_in, scalar_fits}
 
 -- ---- aggregates
 
@@ -85,14 +86,14 @@ module _ (own : Value → Type 0) (vs : Variants) (ks : Kinds) (params : List Va
   aggregate_typed : (a : Aggregate) → AggregateFits ks a → (t : ValueType) × (aggregate_type ks a ≡ Some t) × V (aggregate_of params g a) t
   aggregate_typed agg.Count h = (ty.Int, refl, (refl, count_int _ (SFits-int_wrap w64 (pos (length g)))))
   aggregate_typed (agg.Sum by) h = (ty.Int, refl, (refl, summed (map (λ c. value_of params c by) g) (pos 0) zero_int (values_fit by kind.Int h g fits)))
-  aggregate_typed (agg.Min by) (k, h) = (
+  aggregate_typed (agg.Min by) (k, basic, h) = (
     ty.Opt (kind_type k),
-    ap (option_map (λ k. ty.Opt (kind_type k))) (kind_there ks by k h),
+    ap (option_map (λ k. ty.Opt (kind_type k))) (head_is ks by k h),
     option_value k (fold (better is_lt) None (map (λ c. value_of params c by) g)) (best_fits is_lt k (map (λ c. value_of params c by) g) None tt (values_fit by k h g fits)),
   )
-  aggregate_typed (agg.Max by) (k, h) = (
+  aggregate_typed (agg.Max by) (k, basic, h) = (
     ty.Opt (kind_type k),
-    ap (option_map (λ k. ty.Opt (kind_type k))) (kind_there ks by k h),
+    ap (option_map (λ k. ty.Opt (kind_type k))) (head_is ks by k h),
     option_value k (fold (better is_gt) None (map (λ c. value_of params c by) g)) (best_fits is_gt k (map (λ c. value_of params c by) g) None tt (values_fit by k h g fits)),
   )
 
@@ -133,7 +134,7 @@ module _ (own : Value → Type 0) (vs : Variants) (ks : Kinds) (params : List Va
       each (inr none) = inr (recursion_from_All (λ (c : Name × ColumnAt). Contains [] c.1) columns none)
   field_typed (field.Single name by) (k, h) there = (
     (name, kind_type k),
-    ap (option_map (λ k. (name, kind_type k))) (kind_there ks by k h),
+    ap (option_map (λ k. (name, kind_type k))) (head_is ks by k h),
     refl,
     kind_value own vs (value_of params First by) k (scalar_fits ks params First params_fit by k h there),
   )

@@ -1,6 +1,6 @@
--- Kinds of expressions, and values of expressions that read no column.
+-- Values of expressions that read no column.
 use Rattle.std.proofs.Common.{◌≡◌, ◌⊎◌, inl, inr, pos, true, not, ◌&&◌, ◌||◌, List, [], ◌∷◌, Contains, refl, sym, ap, ap₂, subst, arith}
-use Rattle.std.specs.Prelude.{map, Some, IsAscii}
+use Rattle.std.specs.Prelude.{map, IsAscii}
 use Rattle.std.specs.List.{AllZip}
 use Rattle.std.specs.Int.{w64, int_wrapping_add, int_wrapping_sub, int_wrapping_mul}
 use Rattle.std.proofs.lemmas.Int.{ints}
@@ -14,29 +14,9 @@ use Rattle.ur_values.specs.Values.{IsInt}
 use Rattle.ur_values.specs.Store.{Row, FitsKind, FitKinds}
 use Rattle.ur_sql.specs.declared.scalar.Scalar.{Scalar, more_of-Scalar as one, end_of-Scalar as end}
 use Rattle.ur_sql.specs.declared.scalar.Scalar.TheVariants as s
-use Rattle.ur_sql.specs.Scalar.{value_of, on_ints, int_neg, is_true, compares}
+use Rattle.ur_sql.specs.Scalar.{value_of, on_ints, int_neg, is_true, compares, presented}
 use Rattle.ur_sql.specs.Typing.{Kinds, HasKind, ReadsOnly}
 use Rattle.ur_sql.proofs.Typed.{value_fits}
-use Rattle.ur_sql.specs.Kinds.{constant_kind, scalar_kind}
-
-constant_there : (x : Value) (k : ColumnKind) → FitsKind x k → constant_kind x ≡ Some k
-constant_there (v.Int i) kind.Int h = refl
-constant_there (v.Str t) kind.Str h = refl
-constant_there (v.Bool b) kind.Bool h = refl
-constant_there _ _ h = absurd h
-
-pub kind_there : (ks : Kinds) (e : Scalar) (k : ColumnKind) → HasKind ks e k → scalar_kind ks e ≡ Some k
-kind_there ks (s.Constant x) k h = constant_there x k h
-kind_there ks (s.Column i c) k h = h
-kind_there ks (s.Param n) k h = h
-kind_there ks (s.Or' _ (one a end) _ (one b end)) k h = ap Some (sym (h.0))
-kind_there ks (s.And' _ (one a end) _ (one b end)) k h = ap Some (sym (h.0))
-kind_there ks (s.Not' _ (one a end)) k h = ap Some (sym (h.0))
-kind_there ks (s.Compare' c _ (one a end) _ (one b end)) k h = ap Some (sym (h.0))
-kind_there ks (s.Add' _ (one a end) _ (one b end)) k h = ap Some (sym (h.0))
-kind_there ks (s.Sub' _ (one a end) _ (one b end)) k h = ap Some (sym (h.0))
-kind_there ks (s.Mul' _ (one a end) _ (one b end)) k h = ap Some (sym (h.0))
-kind_there ks (s.Neg' _ (one a end)) k h = ap Some (sym (h.0))
 
 pub none_in : {A : Type 0} (x : A) → Contains [] x → ⊥
 none_in x (k, lt, e) = omega (arith, lt)
@@ -56,6 +36,8 @@ module _ (params : List Value) (rows others : List Row) where
   same_value (s.Sub' _ (one a end) _ (one b end)) h = ap₂ (on_ints (int_wrapping_sub w64)) (same_value a (h.0)) (same_value b (h.1))
   same_value (s.Mul' _ (one a end) _ (one b end)) h = ap₂ (on_ints (int_wrapping_mul w64)) (same_value a (h.0)) (same_value b (h.1))
   same_value (s.Neg' _ (one a end)) h = ap int_neg (same_value a h)
+  same_value (s.Null k) h = refl
+  same_value (s.Present' _ (one a end)) h = ap presented (same_value a h)
 
 -- ---- a combination of rows of any kinds
 
@@ -63,6 +45,9 @@ abbrev some_value : ColumnKind → Value
 some_value kind.Int = v.Int (pos 0)
 some_value kind.Str = v.Str []
 some_value kind.Bool = v.Bool true
+some_value kind.OptInt = v.Absent
+some_value kind.OptStr = v.Absent
+some_value kind.OptBool = v.Absent
 
 empty_ascii : IsAscii []
 empty_ascii = λ i. omega arith
@@ -74,6 +59,9 @@ some_value_fits : (k : ColumnKind) → FitsKind (some_value k) k
 some_value_fits kind.Int = zero_int
 some_value_fits kind.Str = IsUtf8-from_ascii [] empty_ascii
 some_value_fits kind.Bool = tt
+some_value_fits kind.OptInt = tt
+some_value_fits kind.OptStr = tt
+some_value_fits kind.OptBool = tt
 
 some_row_fits : (ks : List ColumnKind) → FitKinds (map some_value ks) ks
 some_row_fits [] = tt

@@ -1,13 +1,15 @@
 -- Code that fits its types.
-use Rattle.std.specs.Prelude.{◌≡◌, ℕ, true, [], length, map, All, Some, slice_get}
+use Rattle.std.specs.Prelude.{◌≡◌, ℕ, true, [], length, map, All, Some, None, slice_get}
 use Rattle.std.specs.List.{AllZip}
 use Rattle.std.specs.Str.{IsUtf8}
 use Rattle.ur_values.specs.declared.types.ValueType.TheVariants as ty
+use Rattle.ur_values.specs.Kinds.{inside}
 use Rattle.ur_sql.specs.Typing.{QueryFits, ChangeFits}
 use Rattle.ur_tags.specs.declared.routes.Route.{Route}
 use Rattle.ur_terms.specs.declared.term.Function.{Function}
 use Rattle.ur_terms.specs.Types.{RouteType, Signature, FitsFunction, function_type}
 use Rattle.ur_code.specs.declared.code.Code.{Code}
+use Rattle.ur_code.specs.declared.code.Cookie.{Cookie}
 use Rattle.ur_code.specs.RowType.{kind_type, query_type}
 use Rattle.ur_code.specs.RouteTypes.{route_params}
 
@@ -38,11 +40,16 @@ pub record FitsRoute (code : Code) (r : Route) (target : ℕ) : Type 0 where
   pub page : function.result ≡ ty.Page
   pub no_form : r.get ≡ true → r.form ≡ []
 
--- Each function's body has its result's type, each query and change fits the tables, each route its function, and the
--- tables' names are text.
+-- a cookie holds an int, a text or a bool, and no option
+abbrev pub IsBasicCookie : Cookie → Type 0
+IsBasicCookie c = inside c.of ≡ None
+
+-- Each function's body has its result's type, each query and change fits the tables, each route its function, the
+-- tables' names are text, and no cookie is optional.
 pub record Fits (code : Code) : Type 0 where
   pub functions : All (FitsFunction (signature code)) code.functions
   pub queries : All (QueryFits code.schema) code.queries
   pub changes : All (ChangeFits code.schema) code.changes
   pub routes : AllZip (FitsRoute code) code.handlers.routes code.targets
   pub tables : All (λ shape. IsUtf8 shape.name) code.schema.tables
+  pub cookies : All IsBasicCookie code.cookies

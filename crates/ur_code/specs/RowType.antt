@@ -15,10 +15,14 @@ use Rattle.ur_sql.specs.Typing.{Kinds, column_kind, kinds_in}
 use Rattle.ur_sql.specs.Kinds.{scalar_kind}
 use Rattle.ur_terms.specs.Types.{record_type, unit_type}
 
+-- an optional kind has the option of the type of what is inside
 abbrev pub kind_type : ColumnKind → ValueType
 kind_type kind.Int = ty.Int
 kind_type kind.Str = ty.Str
 kind_type kind.Bool = ty.Bool
+kind_type kind.OptInt = ty.Opt ty.Int
+kind_type kind.OptStr = ty.Opt ty.Str
+kind_type kind.OptBool = ty.Opt ty.Bool
 
 abbrev pub both_there : {A : Type 0} → Option A → Option (List A) → Option (List A)
 both_there (Some x) (Some xs) = Some (x ∷ xs)

@@ -13,8 +13,10 @@ use Rattle.ur_mono.specs.Mono.{IsCodeOf, CodeKeepsMeaning, cookie_of}
 use Rattle.ur_effects.specs.Refused.{GetNeverWrites}
 use Rattle.ur_compile.specs.Explains.{HasCode}
 use Rattle.ur_compile.specs.Kept.{IsCodeFor}
+use Rattle.ur_compile.proofs.Numberings as numberings
 
-pub code_for : CodeKeepsMeaning → (app : Typed) (closed : Closed) (code : Code) → IsClosed app closed → IsCodeOf closed code → Fits code → NeverStuck code → GetNeverWrites code → IsSmall app → IsWithinLimits app → IsCodeFor app code
+pub code_for : CodeKeepsMeaning → (app : Typed) (closed : Closed) (code : Code) → IsClosed app closed → IsCodeOf closed code → Fits code → NeverStuck code →
+    GetNeverWrites code → IsSmall app → IsWithinLimits app → IsCodeFor app code
 code_for law app closed code is of fits never gets small limits = record {
   handlers = of.handlers ∙ is.1.handlers;
   cookies = of.cookies ∙ ap (map cookie_of) is.1.cookies;
@@ -26,6 +28,12 @@ code_for law app closed code is of fits never gets small limits = record {
   gets = gets;
   small = small;
   limits = limits;
+  passes = record {
+    small = small;
+    fit = numberings.fits app closed code is of fits;
+    gets = numberings.gets app closed code is of gets;
+    limits = limits;
+  };
 }
 
 pub has_code : (app : Typed) (closed : Closed) (code : Code) → IsSmall app → IsClosed app closed → IsCodeOf closed code → HasCode app code

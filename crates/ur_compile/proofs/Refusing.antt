@@ -1,6 +1,8 @@
 -- Refusals by their reasons.
 use Rattle.std.proofs.Common.{◌≡◌, sym, ap, subst, ◌∙◌, ℕ, List, Option, Some, None, Result, Ok, Err}
+use Rattle.std.specs.Prelude.{IsTrue}
 use Rattle.std.specs.Result.{IsErrAnd}
+use Rattle.ur_base.specs.Codes.{is_refusal_code}
 use Rattle.ur_base.specs.Stopping.{IfRefused}
 use Rattle.ur_base.specs.Told.{WhereTold}
 use Rattle.ur_base.specs.declared.refusal.Refusal.{Refusal}
@@ -73,26 +75,37 @@ module _ (files : Files) (project file : List ℕ) (r : Refusal) where
 
 -- ---- answers
 
-refused_along : {A : Type 0} (r : Result A CompileEnd) {P Q : List ℕ → Refusal → Type 0} → ((file : List ℕ) (x : Refusal) → P file x → Q file x) → IfRefusedIn r P → IfRefusedIn r Q
+-- the code of every refusal is one of E01 to E20
+pub code_named : {A : Type 0} (r : Result A CompileEnd) → IfRefusedIn r (λ file x. IsTrue (is_refusal_code x.code))
+code_named (Ok b) = tt
+code_named (Err (compile.Refused file x)) = x.named
+code_named (Err compile.Shelf) = tt
+code_named (Err compile.Memory) = tt
+
+refused_along : {A : Type 0} (r : Result A CompileEnd) {P Q : List ℕ → Refusal → Type 0} → ((file : List ℕ) (x : Refusal) → P file x → Q file x) →
+    IfRefusedIn r P → IfRefusedIn r Q
 refused_along (Ok b) f h = tt
 refused_along (Err (compile.Refused file x)) f h = f file x h
 refused_along (Err compile.Shelf) f h = tt
 refused_along (Err compile.Memory) f h = tt
 
 -- a refusal that is handed on, in its file
-pub exit_along : {B : Type 0} (r : Result B CompileEnd) (e : CompileEnd) {P Q : List ℕ → Refusal → Type 0} → IsErrAnd r (λ y. y ≡ e) → ((file : List ℕ) (x : Refusal) → P file x → Q file x)
+pub exit_along : {B : Type 0} (r : Result B CompileEnd) (e : CompileEnd) {P Q : List ℕ → Refusal → Type 0} → IsErrAnd r (λ y. y ≡ e) →
+    ((file : List ℕ) (x : Refusal) → P file x → Q file x)
     → IfRefusedIn {A = Unit {0}} (Err e) P → IfRefusedIn r Q
 exit_along (Ok b) e i f h = absurd i
 exit_along {B = B} (Err y) e {P = P} i f h = refused_along {A = B} (Err y) f (subst (λ z. IfRefusedIn {A = Unit {0}} (Err z) P) (sym i) h)
 
 -- the same of one that names no file yet
-pub refused_exit : {B : Type 0} (r : Result B Stop) (e : Stop) {P Q : Refusal → Type 0} → IsErrAnd r (λ y. y ≡ e) → ((x : Refusal) → P x → Q x) → IfRefused {A = Unit {0}} (Err e) P → IfRefused r Q
+pub refused_exit : {B : Type 0} (r : Result B Stop) (e : Stop) {P Q : Refusal → Type 0} → IsErrAnd r (λ y. y ≡ e) → ((x : Refusal) → P x → Q x) →
+    IfRefused {A = Unit {0}} (Err e) P → IfRefused r Q
 refused_exit (Ok b) e i f h = absurd i
 refused_exit (Err (stop.Refused x)) e {P = P} i f h = f x (subst (λ z. IfRefused {A = Unit {0}} (Err z) P) (sym i) h)
 refused_exit (Err stop.Memory) e i f h = tt
 
 -- the refusal of a stop, in its file
-pub stop_refused : (file : List ℕ) (s : Stop) (end : CompileEnd) (P : Refusal → Type 0) (Q : List ℕ → Refusal → Type 0) → IsStopIn file s end → IfRefused {A = Unit {0}} (Err s) P
+pub stop_refused : (file : List ℕ) (s : Stop) (end : CompileEnd) (P : Refusal → Type 0) (Q : List ℕ → Refusal → Type 0) → IsStopIn file s end →
+    IfRefused {A = Unit {0}} (Err s) P
     → ((r : Refusal) → P r → Q file r) → IfRefusedIn {A = Unit {0}} (Err end) Q
 stop_refused file (stop.Refused r) (compile.Refused at' q) P Q is h f = subst (λ z. Q z q) (sym is.0) (subst (Q file) (sym is.1) (f r h))
 stop_refused file (stop.Refused r) compile.Shelf P Q is h f = tt
@@ -132,7 +145,8 @@ pub end_refused : (told : Option Files) (project : List ℕ) (end : LoadEnd) (gi
 end_refused told project end given e law h = subst (λ z. IfRefusedIn {A = Unit {0}} (Err z) (RefusesTold told project)) (sym e) (loaded_end told project end law h)
 
 -- what is known for all files is so of those that are told
-pub told_refused : {A : Type 0} (told : Option Files) (project : List ℕ) (l : Loaded) (r : Result A CompileEnd) → WhereTold told (λ files. IsLoaded files project l)
+pub told_refused : {A : Type 0} (told : Option Files) (project : List ℕ) (l : Loaded) (r : Result A CompileEnd) →
+    WhereTold told (λ files. IsLoaded files project l)
     → IfRefusedIn r (λ file x. (files : Files) (project : List ℕ) → IsLoaded files project l → Refuses files project file x)
     → IfRefusedIn r (λ file x. WhereTold told (λ files. Refuses files project file x))
 told_refused told project l (Ok b) is h = tt

@@ -7,6 +7,7 @@ use Rattle.ur_unfold.specs.Limits.{IsSmall}
 use Rattle.ur_check_limits.specs.Limits.{IsWithinLimits}
 use Rattle.ur_mono.specs.Mono.{IsMeaningOf, cookie_of}
 use Rattle.ur_effects.specs.Refused.{GetNeverWrites}
+use Rattle.ur_compile.specs.Passes.{Passes}
 
 -- The code has the application's routes, cookies, tables, queries and changes; each request means by the source what it
 -- comes to by the code, and nothing else; it fits its types; no route that answers GET writes; no limit is exceeded.
@@ -21,3 +22,5 @@ pub record IsCodeFor (app : Typed) (code : Code) : Type 0 where
   pub gets : GetNeverWrites code
   pub small : IsSmall app
   pub limits : IsWithinLimits app
+  -- the same of each numbering of the instances
+  pub passes : Passes app

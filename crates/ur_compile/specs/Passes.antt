@@ -13,6 +13,10 @@ use Rattle.ur_effects.specs.Refused.{GetNeverWrites}
 abbrev pub OfCode : Typed → (Code → Type 0) → Type 0
 OfCode app P = (closed : Closed) (code : Code) → IsClosed app closed → IsCodeOf closed code → P code
 
+-- what holds of the code of one numbering of an application's instances holds of that of each
+abbrev pub IsOfEach : (Code → Type 0) → Type 0
+IsOfEach P = (app : Typed) (closed : Closed) (code : Code) → IsClosed app closed → IsCodeOf closed code → P code → OfCode app P
+
 -- Its instances are few, small and flat, and fit their types; no route that answers GET writes; no limit is exceeded.
 pub record Passes (app : Typed) : Type 0 where
   pub small : IsSmall app

@@ -1,5 +1,6 @@
 //! The passes, in order.
-ghost use Rattle.std.specs.Prelude.{◌≡◌, ◌≤◌, length, Some, None, IfOk, OnOk, Option};
+ghost use Rattle.std.specs.Prelude.{◌≡◌, ◌≤◌, length, Some, None, IfOk, IsTrue, OnOk, Option};
+ghost use Rattle.ur_base.specs.Codes.{is_refusal_code};
 ghost use Rattle.ur_base.specs.Counts.{Rose};
 ghost use Rattle.ur_base.specs.Stopping.{IfRefused, Says};
 ghost use Rattle.ur_base.specs.Told.{WhereTold};
@@ -47,6 +48,8 @@ pub fn compile<S: Shelf>(
     ensures sound { IfOk result (λ c. IsSoundInvalidation c.verified.schema c.verified.queries c.verified.changes c.patterns) }
     ensures reads { IfOk result (λ c. ReadArguments c.verified.changes c.patterns) }
     ensures refused { IfRefusedIn result (λ file r. WhereTold (S.told shelf.old) (λ files. Refuses files project.now file r)) }
+    // Whatever the shelf tells.
+    ensures named { IfRefusedIn result (λ file r. IsTrue (is_refusal_code r.code)) }
     ensures shelf { OnShelf result (Rose (S.faults shelf.old) (S.faults shelf.new)) }
     ensures never_falls { S.faults shelf.old ≤ S.faults shelf.new }
     ensures kept { S.told shelf.new ≡ S.told shelf.old }

@@ -7,4 +7,4 @@ mod law;
 
 pub use compiled::{CompileEnd, Compiled};
 pub use compiling::compile;
-pub use law::one_application;
+pub use law::{each_numbering, one_application, one_step};

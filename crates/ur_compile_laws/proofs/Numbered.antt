@@ -68,7 +68,7 @@ decl_follows app most home p _ q (project.DeclResolves.datatype {x = x} {vs = vs
     follow_none app p.functions q.functions (variants_same app most p.datatypes (with_entry x kind.Star (meaning.Datatype p.datatypes) (record p { datatypes = p.datatypes + 1 })) vs q h)
 decl_follows app most home p _ _ (project.DeclResolves.table a b c d) = follow_none app p.functions p.functions refl
 decl_follows app most home p _ _ (project.DeclResolves.sequence a b) = follow_none app p.functions p.functions refl
-decl_follows app most home p _ _ (project.DeclResolves.cookie a b c) = follow_none app p.functions p.functions refl
+decl_follows app most home p _ _ (project.DeclResolves.cookie a o b c) = follow_none app p.functions p.functions refl
 decl_follows app most home p _ _ (project.DeclResolves.val a b c) = follow_none app p.functions p.functions refl
 decl_follows app most home p _ q (project.DeclResolves.functions {fs = fs} k g) = functions_follow app most home q p fs q k g
 

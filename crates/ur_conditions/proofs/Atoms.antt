@@ -37,7 +37,7 @@ use Rattle.ur_conditions.specs.Patterns.{Test, constants_of, args_in_class, cons
 use Rattle.ur_conditions.specs.Masks.{KeyReads, GuardReads, PatternReads}
 use Rattle.ur_sql.proofs.Members.{In, contains_from_in, in_append_back, in_map_back, in_filter, in_filter_map_back, found, in_range_back}
 use Rattle.ur_sql.proofs.NewRows.{assigned_from, set_fits}
-use Rattle.ur_conditions.proofs.Values.{fits_atomic}
+use Rattle.ur_values.proofs.Fitting.{basic_atomic}
 use Rattle.ur_conditions.proofs.Sound.{all_append, all_by_in}
 use Rattle.ur_conditions.proofs.Fires.{constant_term, in_flat_map_back}
 
@@ -53,6 +53,8 @@ constant_atomic (t.Mul' _ (more a none) _ (more b none)) h c (inl e) = cc
 constant_atomic (t.Mul' _ (more a none) _ (more b none)) h c (inr i) = ⊎_elim (constant_atomic a (h.0) c) (constant_atomic b (h.1) c) (in_append_back (subterms a) (subterms b) (t.Constant c) i)
 constant_atomic (t.Neg' _ (more a none)) h c (inl e) = cc
 constant_atomic (t.Neg' _ (more a none)) h c (inr i) = constant_atomic a h c i
+constant_atomic (t.Present' _ (more a none)) h c (inl e) = cc
+constant_atomic (t.Present' _ (more a none)) h c (inr i) = constant_atomic a h c i
 constant_atomic (t.Constant x) h c (inl e) = let same : x ≡ c = cc in subst IsAtomic same h
 constant_atomic (t.Constant x) h c (inr i) = absurd i
 constant_atomic (t.Item n k) h c (inl e) = cc
@@ -92,6 +94,11 @@ neg_atoms : (a : Option SqlTerm) → IfTerm a → IfTerm (term_map t.Neg a)
 unfolding Rattle.ur_sql.specs.declared.term.SqlTerm.TheBlock.hidden-the_row-SqlTerm-0 denote.Hole.Carrier.hidden
 neg_atoms None x = tt
 neg_atoms (Some a) x = x
+
+present_atoms : (a : Option SqlTerm) → IfTerm a → IfTerm (term_map t.Present a)
+unfolding Rattle.ur_sql.specs.declared.term.SqlTerm.TheBlock.hidden-the_row-SqlTerm-0 denote.Hole.Carrier.hidden
+present_atoms None x = tt
+present_atoms (Some a) x = x
 
 column_atoms : (side : Side) (i c : ℕ) → HasAtoms (column_term side i c)
 column_atoms AtItems i c = tt
@@ -159,7 +166,7 @@ either_atoms false left right x y = (all_append DisjunctAtoms left right x y, pa
 module _ (side : Side) (ks : Kinds) where
   pub term_atoms : (e : Scalar) (k : ColumnKind) → HasKind ks e k → IfTerm (term_of side e)
   unfolding term_of
-  term_atoms (s.Constant x) k h = fits_atomic x k h
+  term_atoms (s.Constant x) k h = basic_atomic x k h
   term_atoms (s.Column i c) k h = column_atoms side i c
   term_atoms (s.Param n) k h = param_atoms side n
   term_atoms (s.Or' _ (one a end) _ (one b end)) k h = tt
@@ -170,6 +177,8 @@ module _ (side : Side) (ks : Kinds) where
   term_atoms (s.Sub' _ (one a end) _ (one b end)) k h = sub_atoms (term_of side a) (term_of side b) (term_atoms a kind.Int (h.1)) (term_atoms b kind.Int (h.2))
   term_atoms (s.Mul' _ (one a end) _ (one b end)) k h = mul_atoms (term_of side a) (term_of side b) (term_atoms a kind.Int (h.1)) (term_atoms b kind.Int (h.2))
   term_atoms (s.Neg' _ (one a end)) k h = neg_atoms (term_of side a) (term_atoms a kind.Int (h.1))
+  term_atoms (s.Null j) k h = tt
+  term_atoms (s.Present' _ (one a end)) k h = present_atoms (term_of side a) (term_atoms a (h.0) (h.2))
 
   pub disjuncts_atoms : (e : Scalar) → HasKind ks e kind.Bool → (positive : Bool) → AtomicDisjuncts (disjuncts_of side positive e)
   unfolding disjuncts_of
@@ -187,6 +196,8 @@ module _ (side : Side) (ks : Kinds) where
   disjuncts_atoms (s.Sub' _ (one a end) _ (one b end)) h positive = no_condition_atoms
   disjuncts_atoms (s.Mul' _ (one a end) _ (one b end)) h positive = no_condition_atoms
   disjuncts_atoms (s.Neg' _ (one a end)) h positive = no_condition_atoms
+  disjuncts_atoms (s.Null j) h positive = no_condition_atoms
+  disjuncts_atoms (s.Present' _ (one a end)) h positive = no_condition_atoms
 
   fold_atoms : (es : List Scalar) (ds : List Disjunct) → AtomicDisjuncts ds → ((e : Scalar) → In e es → HasKind ks e kind.Bool) → AtomicDisjuncts (fold (λ ds e. paired ds (disjuncts_of side true e)) ds es)
   fold_atoms [] ds x h = x

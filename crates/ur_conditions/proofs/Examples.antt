@@ -24,7 +24,7 @@ use Rattle.ur_conditions.specs.Used.{reads}
 use Rattle.ur_conditions.specs.Disjuncts.{disjuncts_of}
 use Rattle.ur_conditions.specs.declared.pair.Pair.{Pair}
 use Rattle.ur_conditions.specs.Pairs.{pairs_of, terms_of}
-use Rattle.ur_conditions.specs.Patterns.{pattern_by, pattern_eq}
+use Rattle.ur_conditions.specs.Patterns.{is_some, pattern_by, pattern_eq}
 
 -- ---- a plain closure
 
@@ -39,6 +39,7 @@ term_eq (t.Add' _ (more a none) _ (more b none)) (t.Add' _ (more c none) _ (more
 term_eq (t.Sub' _ (more a none) _ (more b none)) (t.Sub' _ (more c none) _ (more d none)) = term_eq a c && term_eq b d
 term_eq (t.Mul' _ (more a none) _ (more b none)) (t.Mul' _ (more c none) _ (more d none)) = term_eq a c && term_eq b d
 term_eq (t.Neg' _ (more a none)) (t.Neg' _ (more c none)) = term_eq a c
+term_eq (t.Present' _ (more a none)) (t.Present' _ (more c none)) = term_eq a c
 term_eq _ _ = false
 
 abbrev Classes : Type 0
@@ -60,6 +61,10 @@ all_together cs [] [] = true
 all_together cs (a ∷ as') (b ∷ bs) = together cs a b && all_together cs as' bs
 all_together cs _ _ = false
 
+abbrev joined_each : List SqlTerm → List SqlTerm → Classes → Classes
+joined_each (a ∷ as') (b ∷ bs) cs = joined_each as' bs (joined cs a b)
+joined_each _ _ cs = cs
+
 abbrev alike : Classes → Option (ℕ × List SqlTerm) → Option (ℕ × List SqlTerm) → Bool
 alike cs (Some x) (Some y) = (x.0 == y.0) && all_together cs x.1 y.1
 alike cs _ _ = false
@@ -68,9 +73,20 @@ abbrev by_congruence : List SqlTerm → Classes → Classes
 by_congruence terms cs =
     fold (λ ds a. fold (λ es b. if alike es (application a) (application b) then joined es a b else es) ds terms) cs terms
 
+-- what stands inside of two terms, if they are SOMEs
+abbrev insides : Option (ℕ × List SqlTerm) → Option (ℕ × List SqlTerm) → Classes → Classes
+insides (Some x) (Some y) cs = joined_each x.1 y.1 cs
+insides _ _ cs = cs
+
+-- what stands inside equal SOMEs is equal
+abbrev by_injection : List SqlTerm → Classes → Classes
+by_injection terms cs =
+    let somes = filter is_some terms in
+    fold (λ ds a. fold (λ es b. if together es a b then insides (application a) (application b) es else es) ds somes) cs somes
+
 abbrev rounds : ℕ → List SqlTerm → Classes → Classes
 rounds zero terms cs = cs
-rounds (suc n) terms cs = rounds n terms (by_congruence terms cs)
+rounds (suc n) terms cs = rounds n terms (by_injection terms (by_congruence terms cs))
 
 abbrev classes : Pair → Classes
 classes p =
@@ -216,3 +232,54 @@ third_unused = refl
 third_orders : patterns 0 (record first_column { order = record { by = s.Column 0 2; descending = false } ∷ [] }) set_third ≡ any 0 ∷ []
 unfolding value_cmp reads disjuncts_of term_of subterms term_eq Rattle.ur_sql.specs.declared.term.SqlTerm.TheBlock.hidden-the_row-SqlTerm-0 denote.Hole.Carrier.hidden
 third_orders = refl
+
+-- t : {A : int, C : option int}, WHERE t.C = SOME({[k]})
+abbrev optional : Item
+optional = record { table = 0; columns = kind.Int ∷ kind.OptInt ∷ [] }
+
+abbrev some : Scalar → Scalar
+some a = s.Present' tt (one a end)
+
+abbrev some_of : Query
+some_of = select (optional ∷ []) (equal (s.Column 0 1) (some (s.Param 0)))
+
+-- INSERT INTO t (A, C) VALUES ({[a]}, SOME({[x]})): what stands inside is the key
+abbrev put_some : Change
+put_some =
+    record {
+      params = kind.Int ∷ kind.Int ∷ [];
+      table = 0;
+      columns = kind.Int ∷ kind.OptInt ∷ [];
+      action = action.Insert
+          ((0, s.Param 0) ∷ (1, some (s.Param 1)) ∷ []);
+    }
+
+some_put : patterns 0 some_of put_some ≡ arg 1 ∷ []
+unfolding value_cmp reads disjuncts_of term_of subterms term_eq Rattle.ur_sql.specs.declared.term.SqlTerm.TheBlock.hidden-the_row-SqlTerm-0 denote.Hole.Carrier.hidden
+some_put = refl
+
+-- DELETE FROM t WHERE C IS NULL: a NULL is no SOME
+abbrev clear : Change
+clear = record { params = []; table = 0; columns = kind.Int ∷ kind.OptInt ∷ []; action = action.Delete (Some (equal (s.Column 0 1) (s.Null kind.OptInt))) }
+
+some_clear : patterns 0 some_of clear ≡ []
+unfolding value_cmp reads disjuncts_of term_of subterms term_eq Rattle.ur_sql.specs.declared.term.SqlTerm.TheBlock.hidden-the_row-SqlTerm-0 denote.Hole.Carrier.hidden
+some_clear = refl
+
+-- WHERE t.C = {[o]} and an INSERT of NULL, which fixes the key
+abbrev option_of : Query
+option_of = record (select (optional ∷ []) (equal (s.Column 0 1) (s.Param 0))) { params = kind.OptInt ∷ [] }
+
+abbrev put_null : Change
+put_null =
+    record {
+      params = kind.Int ∷ [];
+      table = 0;
+      columns = kind.Int ∷ kind.OptInt ∷ [];
+      action = action.Insert
+          ((0, s.Param 0) ∷ (1, s.Null kind.OptInt) ∷ []);
+    }
+
+null_put : patterns 0 option_of put_null ≡ record { site = 0; keys = key.Is v.Absent ∷ []; guards = [] } ∷ []
+unfolding value_cmp reads disjuncts_of term_of subterms term_eq Rattle.ur_sql.specs.declared.term.SqlTerm.TheBlock.hidden-the_row-SqlTerm-0 denote.Hole.Carrier.hidden
+null_put = refl

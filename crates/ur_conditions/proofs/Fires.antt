@@ -20,11 +20,11 @@ use Rattle.ur_conditions.specs.Terms.{application, subterms, constant_of}
 use Rattle.ur_conditions.specs.Disjuncts.{Equation}
 use Rattle.ur_conditions.specs.declared.pair.Pair.{Pair}
 use Rattle.ur_conditions.specs.Pairs.{side_terms, key_terms, arg_terms, terms_of, IsApplied, SharesClass, TellsClasses}
-use Rattle.ur_conditions.specs.Patterns.{Test, constants_of, is_consistent, args_in_class, constant_in_class, key_by, key_at, constant_guard, guards_by, guards_of, pattern_by}
+use Rattle.ur_conditions.specs.Patterns.{Test, constants_of, somes_of, is_some, is_null, is_consistent, args_in_class, constant_in_class, key_by, key_at, constant_guard, guards_by, guards_of, pattern_by}
 use Rattle.ur_conditions.specs.Masks.{guard_holds, fixed_at}
 use Rattle.ur_conditions.proofs.Valuation.{Valuation, term_value}
 use Rattle.ur_sql.proofs.Members.{In, in_from_contains, contains_from_in, in_append_left, in_append_right, in_append_back, in_map, in_map_back, in_flat_map, in_filter, in_filter_map_back, any_in, all_from, found, in_range}
-use Rattle.ur_conditions.proofs.Values.{value_eq-same, present_injective}
+use Rattle.ur_conditions.proofs.Values.{value_eq-same, present_injective, absent_apart}
 
 pub in_flat_map_back : {X Y : Type 0} (f : X → List Y) (xs : List X) (y : Y) → In y (flat_map f xs) → (x : X) × In x xs × In y (f x)
 in_flat_map_back f [] y h = absurd h
@@ -67,6 +67,7 @@ is_operated w (t.Add' _ (more a end) _ (more b end)) = refl
 is_operated w (t.Sub' _ (more a end) _ (more b end)) = refl
 is_operated w (t.Mul' _ (more a end) _ (more b end)) = refl
 is_operated w (t.Neg' _ (more a end)) = refl
+is_operated w (t.Present' _ (more a end)) = refl
 is_operated w _ = refl
 
 pub applied_value : (w : Valuation) (a : SqlTerm) (f : ℕ) (parts : List SqlTerm) → application a ≡ Some (f, parts) → term_value w a ≡ operate f (map (term_value w) parts)
@@ -79,11 +80,22 @@ own_subterm (t.Add' _ (more a end) _ (more b end)) = inl refl
 own_subterm (t.Sub' _ (more a end) _ (more b end)) = inl refl
 own_subterm (t.Mul' _ (more a end) _ (more b end)) = inl refl
 own_subterm (t.Neg' _ (more a end)) = inl refl
+own_subterm (t.Present' _ (more a end)) = inl refl
 own_subterm _ = inl refl
 
 constant_is : (a : SqlTerm) (c : Value) → constant_of a ≡ Some c → a ≡ t.Constant c
 constant_is (t.Constant x) c e = ap t.Constant (let same : x ≡ c = cc in same)
 constant_is _ c e = cc
+
+-- the value of SOME of a term is Present
+some_value : (w : Valuation) (a : SqlTerm) → is_some a ≡ true → (x : Value) × (term_value w a ≡ v.Present x)
+unfolding term_value
+some_value w (t.Present' _ (more a end)) e = (term_value w a, refl)
+some_value w _ e = cc
+
+null_is : (c : Value) → is_null c ≡ true → c ≡ v.Absent
+null_is v.Absent e = refl
+null_is _ e = cc
 
 -- ---- a key that matches position by position
 
@@ -161,6 +173,18 @@ module _ (p : Pair) (w : Valuation) (args keys : List Value) (holds : PairHolds 
       let equal : c.0 ≡ d.0 = told (t.Constant (c.0)) (t.Constant (d.0)) (constant_term p (c.0) (c.1)) (constant_term p (d.0) (d.1)) (parts.1) in
       true≢false (sym (parts.0) ∙ ap not (value_eq-same (c.0) (d.0) equal))
 
+  -- no NULL and a SOME do
+  no_null_some : list_any (λ c. is_null c && list_any (λ s. same (t.Constant c) s) (somes_of p)) (constants_of p) ≡ true → ⊥
+  unfolding term_value
+  no_null_some h =
+      let c = any_in (λ c. is_null c && list_any (λ s. same (t.Constant c) s) (somes_of p)) (constants_of p) h in
+      let parts = and_parts (is_null (c.0)) (list_any (λ s. same (t.Constant (c.0)) s) (somes_of p)) (c.2) in
+      let s = any_in (λ s. same (t.Constant (c.0)) s) (somes_of p) (parts.1) in
+      let there = in_filter is_some (terms_of p) (s.0) (s.1) in
+      let value = some_value w (s.0) (there.1) in
+      let null : c.0 ≡ v.Absent = null_is (c.0) (parts.0) in
+      absent_apart (value.0) (sym null ∙ told (t.Constant (c.0)) (s.0) (constant_term p (c.0) (c.1)) (there.0) (s.2) ∙ value.1)
+
   -- no disequation's sides do
   no_disequations : list_any (λ (d : Equation). same (d.0) (d.1)) p.disequations ≡ true → ⊥
   no_disequations h =
@@ -169,8 +193,13 @@ module _ (p : Pair) (w : Valuation) (args keys : List Value) (holds : PairHolds 
 
   pub consistent : is_consistent same p ≡ true
   consistent =
-      and_from (not (list_any (λ c. list_any (λ d. not (value_eq c d) && same (t.Constant c) (t.Constant d)) (constants_of p)) (constants_of p))) (not (list_any (λ (d : Equation). same (d.0) (d.1)) p.disequations))
-      (not_from_false _ (false_from_ne_true _ no_constants)) (not_from_false _ (false_from_ne_true _ no_disequations))
+      and_from (not (list_any (λ c. list_any (λ d. not (value_eq c d) && same (t.Constant c) (t.Constant d)) (constants_of p)) (constants_of p)) && not
+      (list_any (λ c. is_null c && list_any (λ s. same (t.Constant c) s) (somes_of p)) (constants_of p)))
+      (not (list_any (λ (d : Equation). same (d.0) (d.1)) p.disequations))
+      (and_from (not (list_any (λ c. list_any (λ d. not (value_eq c d) && same (t.Constant c) (t.Constant d)) (constants_of p)) (constants_of p)))
+      (not (list_any (λ c. is_null c && list_any (λ s. same (t.Constant c) s) (somes_of p)) (constants_of p)))
+      (not_from_false _ (false_from_ne_true _ no_constants)) (not_from_false _ (false_from_ne_true _ no_null_some)))
+      (not_from_false _ (false_from_ne_true _ no_disequations))
 
   -- ---- the key
 

@@ -125,6 +125,8 @@ module _ (known : List SqlTerm) (bools : (b : Bool) → In (t.Constant (v.Bool b
     disjuncts_known (s.Sub' _ (one a end) _ (one b end)) h positive = no_condition_known
     disjuncts_known (s.Mul' _ (one a end) _ (one b end)) h positive = no_condition_known
     disjuncts_known (s.Neg' _ (one a end)) h positive = no_condition_known
+    disjuncts_known (s.Null k) h positive = no_condition_known
+    disjuncts_known (s.Present' _ (one a end)) h positive = no_condition_known
 
     fold_known : (es : List Scalar) (ds : List Disjunct) → DisjunctsKnown ds → Among (flat_map (terms_in side) es) known → DisjunctsKnown (fold (λ ds e. paired ds (disjuncts_of side true e)) ds es)
     fold_known [] ds x h = x

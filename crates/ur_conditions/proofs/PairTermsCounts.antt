@@ -50,6 +50,8 @@ positive (s.Add' _ (one a end) _ (one b end)) = omega arith
 positive (s.Sub' _ (one a end) _ (one b end)) = omega arith
 positive (s.Mul' _ (one a end) _ (one b end)) = omega arith
 positive (s.Neg' _ (one a end)) = omega arith
+positive (s.Null k) = omega arith
+positive (s.Present' _ (one a end)) = omega arith
 
 sets_few : (side : Side) (sets : List (ℕ × Scalar)) → length (flat_map (set_terms side) sets) ≤ sum_by (λ set. scalar_nodes set.1) sets + sum_by (λ set. scalar_nodes set.1) sets
 sets_few side [] = omega arith

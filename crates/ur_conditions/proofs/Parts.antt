@@ -1,5 +1,6 @@
 -- The terms that stand in an expression, one for each of its parts that is a term.
 use Rattle.std.proofs.Common.{ℕ, ◌+◌, ◌≤◌, inl, inr, ⊎_elim, List, [], ◌∷◌, ◌++◌, flat_map, length, Option, Some, None, option_to_list, arith, length-append, subst, sym}
+use Rattle.ur_values.specs.declared.value.Value.TheVariants as v
 use Rattle.ur_sql.specs.declared.scalar.Scalar.{Scalar, more_of-Scalar as one, end_of-Scalar as end}
 use Rattle.ur_sql.specs.declared.scalar.Scalar.TheVariants as s
 use Rattle.ur_sql.specs.declared.term.SqlTerm.{SqlTerm}
@@ -24,6 +25,8 @@ terms_in side (s.Add' _ (one a end) _ (one b end)) = option_to_list (term_both t
 terms_in side (s.Sub' _ (one a end) _ (one b end)) = option_to_list (term_both t.Sub (term_of side a) (term_of side b)) ++ (terms_in side a ++ terms_in side b)
 terms_in side (s.Mul' _ (one a end) _ (one b end)) = option_to_list (term_both t.Mul (term_of side a) (term_of side b)) ++ (terms_in side a ++ terms_in side b)
 terms_in side (s.Neg' _ (one a end)) = option_to_list (term_map t.Neg (term_of side a)) ++ terms_in side a
+terms_in side (s.Null k) = t.Constant v.Absent ∷ []
+terms_in side (s.Present' _ (one a end)) = option_to_list (term_map t.Present (term_of side a)) ++ terms_in side a
 
 -- the terms of a set column's expression, and the column
 abbrev pub set_terms : Side → ℕ × Scalar → List SqlTerm
@@ -74,6 +77,11 @@ unfolding subterms Rattle.ur_sql.specs.declared.term.SqlTerm.TheBlock.hidden-the
 neg_among None ms x = tt
 neg_among (Some a) ms x = cons_among (t.Neg a) (subterms a) ms x
 
+present_among : (a : Option SqlTerm) (ms : List SqlTerm) → IfAmong a ms → IfAmong (term_map t.Present a) (option_to_list (term_map t.Present a) ++ ms)
+unfolding subterms Rattle.ur_sql.specs.declared.term.SqlTerm.TheBlock.hidden-the_row-SqlTerm-0 denote.Hole.Carrier.hidden
+present_among None ms x = tt
+present_among (Some a) ms x = cons_among (t.Present a) (subterms a) ms x
+
 pub column_among : (side : Side) (i c : ℕ) → Among (subterms (column_term side i c)) (column_term side i c ∷ [])
 unfolding subterms
 column_among AtItems i c z h = h
@@ -99,6 +107,8 @@ term_among side (s.Add' _ (one a end) _ (one b end)) = add_among (term_of side a
 term_among side (s.Sub' _ (one a end) _ (one b end)) = sub_among (term_of side a) (term_of side b) (terms_in side a) (terms_in side b) (term_among side a) (term_among side b)
 term_among side (s.Mul' _ (one a end) _ (one b end)) = mul_among (term_of side a) (term_of side b) (terms_in side a) (terms_in side b) (term_among side a) (term_among side b)
 term_among side (s.Neg' _ (one a end)) = neg_among (term_of side a) (terms_in side a) (term_among side a)
+term_among side (s.Null k) = λ z h. h
+term_among side (s.Present' _ (one a end)) = present_among (term_of side a) (terms_in side a) (term_among side a)
 
 -- ---- and they are no more than its nodes
 
@@ -131,3 +141,5 @@ terms_few side (s.Add' _ (one a end) _ (one b end)) = both_more (term_both t.Add
 terms_few side (s.Sub' _ (one a end) _ (one b end)) = both_more (term_both t.Sub (term_of side a) (term_of side b)) (terms_in side a) (terms_in side b) (scalar_nodes a) (scalar_nodes b) (terms_few side a) (terms_few side b)
 terms_few side (s.Mul' _ (one a end) _ (one b end)) = both_more (term_both t.Mul (term_of side a) (term_of side b)) (terms_in side a) (terms_in side b) (scalar_nodes a) (scalar_nodes b) (terms_few side a) (terms_few side b)
 terms_few side (s.Neg' _ (one a end)) = one_more (term_map t.Neg (term_of side a)) (terms_in side a) (scalar_nodes a) (terms_few side a)
+terms_few side (s.Null k) = omega arith
+terms_few side (s.Present' _ (one a end)) = one_more (term_map t.Present (term_of side a)) (terms_in side a) (scalar_nodes a) (terms_few side a)

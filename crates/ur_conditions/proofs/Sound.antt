@@ -25,7 +25,7 @@ use Rattle.ur_conditions.specs.Disjuncts.{no_condition, both, paired, equation, 
 use Rattle.ur_conditions.proofs.Valuation.{Valuation, term_value, Holds}
 use Rattle.ur_sql.proofs.Members.{In, in_append_left, in_append_right, in_flat_map, in_map}
 use Rattle.ur_conditions.proofs.Values.{value_cmp-refl, IsPlain, same_plain, fits_plain}
-use Rattle.ur_sql.proofs.Typed.{value_fits, bool_is}
+use Rattle.ur_sql.proofs.Typed.{value_fits, bool_is, presented_is}
 
 pub all_append : {X : Type 0} (P : X → Type 0) (xs ys : List X) → AllByRecursion P xs → AllByRecursion P ys → AllByRecursion P (xs ++ ys)
 all_append P [] ys a b = b
@@ -130,6 +130,10 @@ module _ (w : Valuation) where
   unfolding term_value Rattle.ur_sql.specs.declared.term.SqlTerm.TheBlock.hidden-the_row-SqlTerm-0 denote.Hole.Carrier.hidden
   mul_is a b = refl
 
+  pub present_is : (a : SqlTerm) → term_value w (t.Present a) ≡ v.Present (term_value w a)
+  unfolding term_value Rattle.ur_sql.specs.declared.term.SqlTerm.TheBlock.hidden-the_row-SqlTerm-0 denote.Hole.Carrier.hidden
+  present_is a = refl
+
   pub neg_is : (a : SqlTerm) → term_value w (t.Neg a) ≡ int_neg (term_value w a)
   unfolding term_value Rattle.ur_sql.specs.declared.term.SqlTerm.TheBlock.hidden-the_row-SqlTerm-0 denote.Hole.Carrier.hidden
   neg_is a = refl
@@ -164,6 +168,10 @@ module _ (w : Valuation) (side : Side) (ks : Kinds) (params : List Value) (rows 
       both_is w t.Mul (on_ints (int_wrapping_mul w64)) (mul_is w) (term_of side a) (term_of side b) (value_of params rows a) (value_of params rows b)
       (term_is a kind.Int (h.1)) (term_is b kind.Int (h.2))
   term_is (s.Neg' _ (one a end)) k h = one_is w t.Neg int_neg (neg_is w) (term_of side a) (value_of params rows a) (term_is a kind.Int (h.1))
+  term_is (s.Null j) k h = refl
+  term_is (s.Present' _ (one a end)) k h =
+      subst (TermIs w (term_map t.Present (term_of side a))) (sym (presented_is (value_of params rows a) (h.0) k (h.1) (fits a (h.0) (h.2))))
+      (one_is w t.Present v.Present (present_is w) (term_of side a) (value_of params rows a) (term_is a (h.0) (h.2)))
 
   not_not : (b c : Bool) → not b ≡ c → b ≡ not c
   not_not true c e = cc
@@ -195,3 +203,5 @@ module _ (w : Valuation) (side : Side) (ks : Kinds) (params : List Value) (rows 
   disjuncts_hold (s.Sub' _ (one a end) _ (one b end)) h positive e = let x = h.0 in cc
   disjuncts_hold (s.Mul' _ (one a end) _ (one b end)) h positive e = let x = h.0 in cc
   disjuncts_hold (s.Neg' _ (one a end)) h positive e = let x = h.0 in cc
+  disjuncts_hold (s.Null j) h positive e = no_condition_holds w
+  disjuncts_hold (s.Present' _ (one a end)) h positive e = no_condition_holds w

@@ -8,8 +8,8 @@ use Rattle.ur_sql.specs.declared.pattern.Pattern.{Pattern}
 use Rattle.ur_conditions.specs.Disjuncts.{Equation}
 use Rattle.ur_conditions.specs.declared.pair.Pair.{Pair}
 use Rattle.ur_conditions.specs.Pairs.{terms_of, TellsClasses}
-use Rattle.ur_conditions.specs.Patterns.{Test, constants_of, is_consistent, args_in_class, constant_in_class, key_by, key_at, guards_by, pattern_by, IsPatternOf}
-use Rattle.ur_sql.proofs.Members.{In, contains_from_in, in_range_back}
+use Rattle.ur_conditions.specs.Patterns.{Test, constants_of, somes_of, is_some, is_null, is_consistent, args_in_class, constant_in_class, key_by, key_at, guards_by, pattern_by, IsPatternOf}
+use Rattle.ur_sql.proofs.Members.{In, contains_from_in, in_filter, in_range_back}
 use Rattle.ur_conditions.proofs.Fires.{left_term, right_term, key_term, arg_term, constant_term}
 
 -- ---- what agrees at each member
@@ -48,10 +48,15 @@ module _ (p : Pair) (same other : Test) (tells : TellsClasses p same) (tells_too
 
   same_consistent : is_consistent same p ≡ is_consistent other p
   same_consistent =
-      ap₂ (λ b c. not b && not c)
+      ap₂ (λ b c. b && not c)
+      (ap₂ (λ b c. not b && not c)
       (any_agree (λ c. list_any (λ d. not (value_eq c d) && same (t.Constant c) (t.Constant d)) (constants_of p)) (λ c. list_any (λ d. not (value_eq c d) && other (t.Constant c) (t.Constant d)) (constants_of p)) (constants_of p)
       (λ c i. any_agree (λ d. not (value_eq c d) && same (t.Constant c) (t.Constant d)) (λ d. not (value_eq c d) && other (t.Constant c) (t.Constant d)) (constants_of p)
       (λ d j. ap (λ b. not (value_eq c d) && b) (agree (t.Constant c) (t.Constant d) (constant_term p c i) (constant_term p d j)))))
+      (any_agree (λ c. is_null c && list_any (λ s. same (t.Constant c) s) (somes_of p))
+      (λ c. is_null c && list_any (λ s. other (t.Constant c) s) (somes_of p)) (constants_of p)
+      (λ c i. ap (λ b. is_null c && b) (any_agree (λ s. same (t.Constant c) s) (λ s. other (t.Constant c) s) (somes_of p)
+      (λ s j. agree (t.Constant c) s (constant_term p c i) ((in_filter is_some (terms_of p) s j).0))))))
       (any_agree (λ (d : Equation). same (d.0) (d.1)) (λ (d : Equation). other (d.0) (d.1)) p.disequations (λ d i. agree (d.0) (d.1) (left_term p d i) (right_term p d i)))
 
   same_args : (a : SqlTerm) → In a (terms_of p) → args_in_class same p a ≡ args_in_class other p a

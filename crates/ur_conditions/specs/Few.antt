@@ -1,5 +1,6 @@
 -- The different terms of a pair.
 use Rattle.std.specs.Prelude.{◌<◌, ◌≤◌, List, length, Contains}
+use Rattle.ur_congruence.specs.Limits.{most_terms}
 use Rattle.ur_sql.specs.declared.term.SqlTerm.{SqlTerm}
 use Rattle.ur_sql.specs.declared.query.Query.{Query}
 use Rattle.ur_sql.specs.declared.change.Change.{Change}
@@ -18,5 +19,5 @@ pub record AreLimited (q : Query) (u : Change) : Type 0 where
 -- all terms of the pair are among fewer than 65,536
 pub record HasFewTerms (p : Pair) : Type 0 where
   pub different : List SqlTerm
-  pub few : length different < 65536
+  pub few : length different < most_terms
   pub all : (a : SqlTerm) → Contains (terms_of p) a → Contains different a

@@ -3,8 +3,9 @@ use Rattle.std.specs.Prelude.{◌≡◌, ℕ, Bool, true, false, not, ◌&&◌, 
 use Rattle.std.specs.List.{list_any, range_with_len, AllZip, enumerate_from}
 use Rattle.std.specs.Cmp.Lexicographic.{pointwise}
 use Rattle.ur_values.specs.declared.value.Value.{Value}
+use Rattle.ur_values.specs.declared.value.Value.TheVariants as v
 use Rattle.ur_values.specs.Order.{value_eq}
-use Rattle.ur_sql.specs.declared.term.SqlTerm.{SqlTerm}
+use Rattle.ur_sql.specs.declared.term.SqlTerm.{SqlTerm, more_of-SqlTerm, end_of-SqlTerm}
 use Rattle.ur_sql.specs.declared.term.SqlTerm.TheVariants as t
 use Rattle.ur_sql.specs.declared.query.Query.{Query}
 use Rattle.ur_sql.specs.declared.change.Change.{Change}
@@ -27,10 +28,23 @@ Test = SqlTerm → SqlTerm → Bool
 abbrev pub constants_of : Pair → List Value
 constants_of p = filter_map constant_of (terms_of p)
 
--- no two different constants share a class, and no disequation's sides share one
+-- SOME of a term
+abbrev pub is_some : SqlTerm → Bool
+is_some (t.Present' _ (more_of-SqlTerm a end_of-SqlTerm)) = true
+is_some _ = false
+
+abbrev pub somes_of : Pair → List SqlTerm
+somes_of p = filter is_some (terms_of p)
+
+abbrev pub is_null : Value → Bool
+is_null v.Absent = true
+is_null _ = false
+
+-- no two different constants share a class, no NULL and a SOME do, and no disequation's sides share one
 abbrev pub is_consistent : Test → Pair → Bool
 is_consistent same p =
     not (list_any (λ c. list_any (λ d. not (value_eq c d) && same (t.Constant c) (t.Constant d)) (constants_of p)) (constants_of p))
+    && not (list_any (λ c. is_null c && list_any (λ s. same (t.Constant c) s) (somes_of p)) (constants_of p))
     && not (list_any (λ d. same d.0 d.1) p.disequations)
 
 -- the arguments in the term's class, the least first

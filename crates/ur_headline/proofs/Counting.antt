@@ -111,7 +111,8 @@ sessions_whole (s ∷ sessions) e =
     both (inr w) others = inr (any_here s sessions w)
 
 -- where the keeper's count did not rise, all marks are Done, or memory was wanting
-pub all_done_or_want : (sessions : List SessionEnd) (old new : ℕ) → RoseBy (keeper_faults sessions) old new → (Rose old new → ⊥) → AllDone sessions ⊎ AnyWants sessions
+pub all_done_or_want : (sessions : List SessionEnd) (old new : ℕ) → RoseBy (keeper_faults sessions) old new → (Rose old new → ⊥) →
+    AllDone sessions ⊎ AnyWants sessions
 all_done_or_want sessions old new by none = as_all (sessions_whole sessions (count (keeper_faults sessions) by))
   where
     count : (n : ℕ) → RoseBy n old new → n ≡ 0

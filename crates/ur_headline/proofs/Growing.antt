@@ -23,7 +23,8 @@ use Rattle.ur_code.specs.Sound.{FitsCookie, IsOf}
 use Rattle.ur_code.proofs.Requests.{request_values, cookies_values}
 use Rattle.ur_code.proofs.Unstuck.{own, V, kept, route_at, keeps_xml, keeps_tables, comes_limited}
 
-other_states : {A : Type 0} (P : A → Type 0) (S T : State → Type 0) (B : Value → Type 0) (o : Outcome A) → Comes P S B o → ((s : State) → S s → T s) → Comes P T B o
+other_states : {A : Type 0} (P : A → Type 0) (S T : State → Type 0) (B : Value → Type 0) (o : Outcome A) → Comes P S B o → ((s : State) → S s → T s) →
+    Comes P T B o
 other_states P S T B (Done x s) h k = (h.0, k s h.1)
 other_states P S T B (Error body events) h k = h
 other_states P S T B (Spent events) h k = tt

@@ -14,7 +14,8 @@ use Rattle.ur_headline.specs.Laws.{LastsFor}
 abbrev IsLow : ℤ → Type 0
 IsLow n = (pos 1 ≤ℤ n) × (n ≤ℤ pos 4611686018427387904)
 
-low_at : (names : List (List ℕ)) (ns : List ℤ) (q : ℕ) → AllZip (λ name n. pos 1 ≤ℤ n) names ns → AllByRecursion (λ n. n ≤ℤ pos 4611686018427387904) ns → q < length names
+low_at : (names : List (List ℕ)) (ns : List ℤ) (q : ℕ) → AllZip (λ name n. pos 1 ≤ℤ n) names ns → AllByRecursion (λ n. n ≤ℤ pos 4611686018427387904) ns →
+    q < length names
     → (n : ℤ) × (slice_get ns q ≡ Some n) × IsLow n
 low_at [] ns q h k below = absurd (omega (arith, below))
 low_at (x ∷ names) [] q h k below = absurd h

@@ -14,7 +14,8 @@ onto_new (x ∷ []) bytes = refl
 onto_new (x ∷ y ∷ lists) bytes = ap (λ z. x ∷ z) (onto_new (y ∷ lists) bytes)
 
 -- one list further
-drop_one : {A : Type 0} (done : List SessionEnd) (e : SessionEnd) (xs : List A) (first : A) (rest : List A) → drop (length done) xs ≡ first ∷ rest → drop (length (done ++ e ∷ [])) xs ≡ rest
+drop_one : {A : Type 0} (done : List SessionEnd) (e : SessionEnd) (xs : List A) (first : A) (rest : List A) → drop (length done) xs ≡ first ∷ rest →
+    drop (length (done ++ e ∷ [])) xs ≡ rest
 drop_one [] e [] first rest is = cc
 drop_one [] e (x ∷ xs) first rest is = cc
 drop_one (d ∷ done) e [] first rest is = cc

@@ -4,6 +4,7 @@ pub mod Numbers
 pub mod Parts
 pub mod Places
 pub mod Shapes
+pub mod Somes
 pub mod Stages
 pub mod Steps
 pub mod Told

@@ -12,7 +12,8 @@ use Rattle.ur_invalidate.specs.declared.leaf.Leaf.{Leaf}
 use Rattle.ur_invalidate.specs.Numbers.{node_eq, leaf_eq, leaf_of, node_number, leaf_place, variable_number, leaf_number, all_numbers, applied, number_of}
 use Rattle.ur_invalidate.proofs.Leaves.{leaf_decides}
 use Rattle.ur_invalidate.proofs.Places.{place_kept, place_passes}
-use Rattle.ur_invalidate.proofs.Shapes.{IsApplication, IsLeaf, Shape, of_parts, of_none, shape, add_is, sub_is, mul_is, neg_is, item_is, row_is, old_is, key_is, arg_is, constant_is, same_application, same_leaf}
+use Rattle.ur_congruence.specs.Derives.{some_symbol}
+use Rattle.ur_invalidate.proofs.Shapes.{IsApplication, IsLeaf, Shape, of_parts, of_none, shape, add_is, sub_is, mul_is, neg_is, present_is, item_is, row_is, old_is, key_is, arg_is, constant_is, same_application, same_leaf}
 
 -- ---- lists of numbers
 
@@ -119,6 +120,7 @@ module _ (leaves : List Leaf) (nodes : List TermNode) where
   own (t.Sub' u (more a none) w (more b none)) = application_own (t.Sub' u (more a none) w (more b none)) 1 (a ∷ b ∷ []) (sub_is u a w b) (own a, (own b, tt))
   own (t.Mul' u (more a none) w (more b none)) = application_own (t.Mul' u (more a none) w (more b none)) 2 (a ∷ b ∷ []) (mul_is u a w b) (own a, (own b, tt))
   own (t.Neg' u (more a none)) = application_own (t.Neg' u (more a none)) 3 (a ∷ []) (neg_is u a) (own a, tt)
+  own (t.Present' u (more a none)) = application_own (t.Present' u (more a none)) some_symbol (a ∷ []) (present_is u a) (own a, tt)
   own (t.Item i c) = leaf_own (t.Item i c) (item_is i c)
   own (t.Row c) = leaf_own (t.Row c) (row_is c)
   own (t.Old c) = leaf_own (t.Old c) (old_is c)
@@ -172,6 +174,7 @@ module _ (leaves more_leaves : List Leaf) (nodes more_nodes : List TermNode) whe
   kept (t.Sub' u (more a none) w (more b none)) = application_kept (t.Sub' u (more a none) w (more b none)) 1 (a ∷ b ∷ []) (sub_is u a w b) (kept a, (kept b, tt))
   kept (t.Mul' u (more a none) w (more b none)) = application_kept (t.Mul' u (more a none) w (more b none)) 2 (a ∷ b ∷ []) (mul_is u a w b) (kept a, (kept b, tt))
   kept (t.Neg' u (more a none)) = application_kept (t.Neg' u (more a none)) 3 (a ∷ []) (neg_is u a) (kept a, tt)
+  kept (t.Present' u (more a none)) = application_kept (t.Present' u (more a none)) some_symbol (a ∷ []) (present_is u a) (kept a, tt)
   kept (t.Item i c) = leaf_stays (t.Item i c) (item_is i c)
   kept (t.Row c) = leaf_stays (t.Row c) (row_is c)
   kept (t.Old c) = leaf_stays (t.Old c) (old_is c)

@@ -73,7 +73,7 @@ module _ (class : SqlTerm → ℕ) (p : Pair) where
   classes = classes_by class p
 
   consistent : are_consistent classes ≡ is_consistent same p
-  consistent = ap₂ (λ a b. not a && not b) clashes equal_sides
+  consistent = ap₂ (λ a b. not a && not classes.null_meets_some && not b) clashes equal_sides
 
   in_class : (a : SqlTerm) → key_by (members (class a) 0 classes.args) (constant_in (class a) classes.constants) ≡ key_by (args_in_class same p a) (constant_in_class same p a)
   in_class a = ap₂ key_by (members_of (λ n. class (t.Arg n)) (class a) 0 p.args) (first_constant (class a) (constants_of p))

@@ -1,13 +1,15 @@
 -- The shapes of terms: a symbol at terms, or a leaf.
 use Rattle.std.proofs.Common.{◌≡◌, ℕ, ◌==◌, cond, List, [], ◌∷◌, ◌++◌, map, flat_map, Option, Some, None, refl, sym, ap, ap₂, ◌∙◌, subst, append-nil}
 use Rattle.std.specs.List.{AllByRecursion}
-use Rattle.ur_values.specs.declared.value.Value.{Value}
+use Rattle.ur_values.specs.declared.value.Value.{Value, more_of-Value, end_of-Value}
+use Rattle.ur_values.specs.declared.value.Node.TheBlock as block
 use Rattle.ur_values.specs.declared.value.Value.TheVariants as v
 use Rattle.ur_values.specs.declared.atom.Atom.{Atom}
 use Rattle.ur_values.specs.declared.atom.Atom.TheVariants as atom
 use Rattle.ur_values.specs.Atom.{atom_value}
 use Rattle.ur_sql.specs.declared.term.SqlTerm.{SqlTerm, more_of-SqlTerm as more, end_of-SqlTerm as none}
 use Rattle.ur_sql.specs.declared.term.SqlTerm.TheVariants as t
+use Rattle.ur_congruence.specs.Derives.{some_symbol}
 use Rattle.ur_congruence.specs.declared.terms.TermNode.{TermNode}
 use Rattle.ur_conditions.specs.Terms.{application, subterms, constant_of, HasAtoms}
 use Rattle.ur_invalidate.specs.declared.leaf.Leaf.{Leaf}
@@ -51,6 +53,19 @@ pub neg_is : (u : _) (a : SqlTerm) → IsApplication (t.Neg' u (more a none)) 3 
 unfolding number_of subterms Rattle.ur_sql.specs.declared.term.SqlTerm.TheBlock.hidden-the_row-SqlTerm-0 denote.Hole.Carrier.hidden
 neg_is u a = record { is = refl; number = λ l n. refl; terms = ap (λ xs. t.Neg a ∷ xs) (sym (append-nil (subterms a))); no_constant = refl; no_leaf = refl; atoms = λ h. (h, tt) }
 
+pub present_is : (u : _) (a : SqlTerm) → IsApplication (t.Present' u (more a none)) some_symbol (a ∷ [])
+unfolding number_of subterms Rattle.ur_sql.specs.declared.term.SqlTerm.TheBlock.hidden-the_row-SqlTerm-0 denote.Hole.Carrier.hidden
+present_is u a =
+    record {
+      is = refl;
+      number = λ l n. refl;
+      terms = ap (λ xs. t.Present a ∷ xs) (sym (append-nil (subterms a)));
+      no_constant = refl;
+      no_leaf = refl;
+      atoms
+          = λ h. (h, tt);
+    }
+
 pub item_is : (i c : ℕ) → IsLeaf (t.Item i c)
 unfolding number_of subterms Rattle.ur_sql.specs.declared.term.SqlTerm.TheBlock.hidden-the_row-SqlTerm-0 denote.Hole.Carrier.hidden
 item_is i c = record { is = refl; number = λ l n. refl; terms = refl }
@@ -80,6 +95,7 @@ shape (t.Add' u (more a none) w (more b none)) = of_parts 0 (a ∷ b ∷ []) (ad
 shape (t.Sub' u (more a none) w (more b none)) = of_parts 1 (a ∷ b ∷ []) (sub_is u a w b)
 shape (t.Mul' u (more a none) w (more b none)) = of_parts 2 (a ∷ b ∷ []) (mul_is u a w b)
 shape (t.Neg' u (more a none)) = of_parts 3 (a ∷ []) (neg_is u a)
+shape (t.Present' u (more a none)) = of_parts some_symbol (a ∷ []) (present_is u a)
 shape (t.Item i c) = of_none (item_is i c)
 shape (t.Row c) = of_none (row_is c)
 shape (t.Old c) = of_none (old_is c)
@@ -104,6 +120,10 @@ pub neg_at : (a : SqlTerm) → IsApplication (t.Neg a) 3 (a ∷ [])
 unfolding Rattle.ur_sql.specs.declared.term.SqlTerm.TheBlock.hidden-the_row-SqlTerm-0 denote.Hole.Carrier.hidden
 neg_at a = neg_is tt a
 
+pub present_at : (a : SqlTerm) → IsApplication (t.Present a) some_symbol (a ∷ [])
+unfolding Rattle.ur_sql.specs.declared.term.SqlTerm.TheBlock.hidden-the_row-SqlTerm-0 denote.Hole.Carrier.hidden
+present_at a = present_is tt a
+
 -- at terms that equal these
 pub add_of : (term a b x y : SqlTerm) → term ≡ t.Add a b → x ≡ a → y ≡ b → IsApplication term 0 (x ∷ y ∷ [])
 add_of term a b x y is left right = subst (λ (z : SqlTerm). IsApplication z 0 (x ∷ y ∷ [])) (sym (is ∙ ap₂ t.Add (sym left) (sym right))) (add_at x y)
@@ -116,6 +136,9 @@ mul_of term a b x y is left right = subst (λ (z : SqlTerm). IsApplication z 2 (
 
 pub neg_of : (term a x : SqlTerm) → term ≡ t.Neg a → x ≡ a → IsApplication term 3 (x ∷ [])
 neg_of term a x is part = subst (λ (z : SqlTerm). IsApplication z 3 (x ∷ [])) (sym (is ∙ ap t.Neg (sym part))) (neg_at x)
+
+pub present_of : (term a x : SqlTerm) → term ≡ t.Present a → x ≡ a → IsApplication term some_symbol (x ∷ [])
+present_of term a x is part = subst (λ (z : SqlTerm). IsApplication z some_symbol (x ∷ [])) (sym (is ∙ ap t.Present (sym part))) (present_at x)
 
 -- a term has one symbol and one list of parts
 abbrev symbol_if : Option (ℕ × List SqlTerm) → ℕ
@@ -135,7 +158,7 @@ one_parts a f g ps qs e h = sym (ap parts_if e) ∙ ap parts_if h
 -- the term that a symbol at terms is
 abbrev built : ℕ → List SqlTerm → SqlTerm
 built f [] = t.Row 0
-built f (a ∷ []) = t.Neg a
+built f (a ∷ []) = cond (f == some_symbol) (t.Present a) (t.Neg a)
 built f (a ∷ b ∷ rest) = cond (f == 0) (t.Add a b) (cond (f == 1) (t.Sub a b) (t.Mul a b))
 
 abbrev built_if : Option (ℕ × List SqlTerm) → SqlTerm
@@ -148,6 +171,7 @@ built_back (t.Add' _ (more a none) _ (more b none)) f parts e = ap built_if e
 built_back (t.Sub' _ (more a none) _ (more b none)) f parts e = ap built_if e
 built_back (t.Mul' _ (more a none) _ (more b none)) f parts e = ap built_if e
 built_back (t.Neg' _ (more a none)) f parts e = ap built_if e
+built_back (t.Present' _ (more a none)) f parts e = ap built_if e
 built_back (t.Item i c) f parts e = cc
 built_back (t.Row c) f parts e = cc
 built_back (t.Old c) f parts e = cc
@@ -175,10 +199,12 @@ leaf_term_if None = t.Row 0
 leaf_term_if (Some l) = leaf_term l
 
 pub leaf_back : (a : SqlTerm) (l : Leaf) → leaf_of a ≡ Some l → a ≡ leaf_term l
+unfolding block.hidden-the_row-Value-3 denote.Hole.Carrier.hidden
 leaf_back (t.Add' _ (more a none) _ (more b none)) l e = cc
 leaf_back (t.Sub' _ (more a none) _ (more b none)) l e = cc
 leaf_back (t.Mul' _ (more a none) _ (more b none)) l e = cc
 leaf_back (t.Neg' _ (more a none)) l e = cc
+leaf_back (t.Present' _ (more a none)) l e = cc
 leaf_back (t.Item i c) l e = ap leaf_term_if e
 leaf_back (t.Row c) l e = ap leaf_term_if e
 leaf_back (t.Old c) l e = ap leaf_term_if e
@@ -187,13 +213,23 @@ leaf_back (t.Arg n) l e = ap leaf_term_if e
 leaf_back (t.Constant (v.Int n)) l e = ap leaf_term_if e
 leaf_back (t.Constant (v.Bool b)) l e = ap leaf_term_if e
 leaf_back (t.Constant (v.Str s)) l e = ap leaf_term_if e
+leaf_back (t.Constant v.Absent) l e = ap leaf_term_if e
+leaf_back (t.Constant (v.Present' _ (more_of-Value (v.Int n) end_of-Value))) l e = ap leaf_term_if e
+leaf_back (t.Constant (v.Present' _ (more_of-Value (v.Bool b) end_of-Value))) l e = ap leaf_term_if e
+leaf_back (t.Constant (v.Present' _ (more_of-Value (v.Str s) end_of-Value))) l e = ap leaf_term_if e
+leaf_back (t.Constant (v.Present' _ (more_of-Value _ end_of-Value))) l e = cc
 leaf_back (t.Constant _) l e = cc
 
 -- a constant that an atom stands for
 pub constant_leaf_is : (a : Atom) (x : Value) → atom_value a ≡ x → leaf_of (t.Constant x) ≡ Some (leaf.Constant a)
+unfolding block.hidden-the_row-Value-3 denote.Hole.Carrier.hidden
 constant_leaf_is (atom.Int n) x e = ap (λ (y : Value). leaf_of (t.Constant y)) (sym e)
 constant_leaf_is (atom.Bool b) x e = ap (λ (y : Value). leaf_of (t.Constant y)) (sym e)
 constant_leaf_is (atom.Str s) x e = ap (λ (y : Value). leaf_of (t.Constant y)) (sym e)
+constant_leaf_is atom.Null x e = ap (λ (y : Value). leaf_of (t.Constant y)) (sym e)
+constant_leaf_is (atom.SomeInt n) x e = ap (λ (y : Value). leaf_of (t.Constant y)) (sym e)
+constant_leaf_is (atom.SomeBool b) x e = ap (λ (y : Value). leaf_of (t.Constant y)) (sym e)
+constant_leaf_is (atom.SomeStr s) x e = ap (λ (y : Value). leaf_of (t.Constant y)) (sym e)
 
 -- one leaf is one term
 pub same_leaf : (a b : SqlTerm) (l : Leaf) → leaf_of a ≡ Some l → leaf_of b ≡ Some l → a ≡ b

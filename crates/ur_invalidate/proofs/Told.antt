@@ -1,7 +1,8 @@
 -- The numbers of classes in a closure tell the classes of a pair's terms.
-use Rattle.std.proofs.Common.{◌≡◌, ◌↔◌, ℕ, ◌<◌, inl, inr, ◌==◌, List, [], ◌∷◌, map, length, Option, Some, None, Contains, refl, sym, ap, ap₂, ◌∙◌, subst, eq-eqb, eqb-true, arith}
-use Rattle.std.specs.Prelude.{slice_get, slice_index, unwrap_or}
-use Rattle.std.specs.List.{AllZip, AllByRecursion, range_with_len}
+use Rattle.std.proofs.Common.{◌≡◌, ◌↔◌, ℕ, ◌<◌, Bool, true, false, not, ◌&&◌, inl, inr, ◌==◌, List, [], ◌∷◌, map, length, Option, Some, None, All, Contains, refl, sym, ap, ap₂, ◌∙◌, subst, eq-eqb, eqb-true, true≢false, arith}
+use Rattle.std.specs.Prelude.{IsTrue, slice_get, slice_index, unwrap_or}
+use Rattle.std.specs.List.{list_any, AllZip, AllByRecursion, range_with_len}
+use Rattle.std.proofs.lemmas.Bool.{and_from, and_parts}
 use Rattle.std.proofs.lemmas.List.Elements.{All-contains, All-from_recursion, All-weaker, recursion_from_All}
 use Rattle.ur_values.specs.declared.value.Value.{Value}
 use Rattle.ur_sql.specs.declared.term.SqlTerm.{SqlTerm}
@@ -9,22 +10,25 @@ use Rattle.ur_sql.specs.declared.term.SqlTerm.TheVariants as t
 use Rattle.ur_congruence.specs.declared.terms.TermNode.{TermNode}
 use Rattle.ur_congruence.specs.declared.terms.TermNode.TheVariants.{Variable, Apply}
 use Rattle.ur_congruence.specs.Graph.{Graph}
-use Rattle.ur_congruence.specs.Terms.{Follows, IsApplied as IsNode, AreClasses}
+use Rattle.ur_congruence.specs.Terms.{Follows, HasTerm, IsApplied as IsNode, AreClasses, MeetsSome}
+use Rattle.ur_congruence.specs.Derives.{some_symbol}
 use Rattle.ur_conditions.specs.Disjuncts.{Equation}
 use Rattle.ur_conditions.specs.declared.pair.Pair.{Pair}
 use Rattle.ur_conditions.specs.Pairs.{terms_of, key_terms, arg_terms, IsApplied, SharesClass, TellsClasses}
+use Rattle.ur_conditions.specs.Patterns.{constants_of, somes_of, is_some, is_null}
 use Rattle.ur_invalidate.specs.declared.leaf.Leaf.{Leaf}
 use Rattle.ur_invalidate.specs.Numbers.{leaf_of, all_numbers, number_of, IsNumber, AreNumbered, HaveNumbers}
 use Rattle.ur_invalidate.specs.PairClasses.{Classes, AreClassesOf}
 use Rattle.ur_invalidate.specs.declared.pair_numbers.PairNumbers.{PairNumbers}
-use Rattle.ur_invalidate.specs.Stages.{classes_at, constants_at, sides_at, read_at, AreWithin, AreNumbersOf}
+use Rattle.ur_invalidate.specs.Stages.{classes_at, constants_at, sides_at, read_at, IsApart, AreApart, AreWithin, AreNumbersOf}
 use Rattle.ur_invalidate.proofs.Numbers.{cons_numbers, node_of_application, node_of_leaf, own, number_within}
 use Rattle.ur_invalidate.proofs.Shapes.{one_symbol, one_parts, Shape, of_parts, of_none, shape}
+use Rattle.ur_invalidate.proofs.Somes.{some_shape, symbol_is, all_by_members}
 use Rattle.ur_invalidate.proofs.Transfer.{carried}
-use Rattle.ur_sql.proofs.Members.{In, in_from_contains, contains_from_in}
+use Rattle.ur_sql.proofs.Members.{In, in_from_contains, contains_from_in, in_map, in_map_back, in_filter, in_from_filter, any_in, any_from}
 
-abbrev classes_record : List ℕ → List ℕ → List (Value × ℕ) → List (ℕ × ℕ) → Classes
-classes_record ks as' cs ss = record { keys = ks; args = as'; constants = cs; disequations = ss }
+abbrev classes_record : List ℕ → List ℕ → List (Value × ℕ) → List (ℕ × ℕ) → Bool → Classes
+classes_record ks as' cs ss meet = record { keys = ks; args = as'; constants = cs; disequations = ss; null_meets_some = meet }
 
 module _ (p : Pair) (leaves : List Leaf) (g : Graph) (constants : List (Value × ℕ))
     (numbered : AreNumbered (terms_of p) leaves g.nodes constants) (equated : HaveNumbers leaves g.nodes p.equations g.equations) where
@@ -156,23 +160,87 @@ module _ (p : Pair) (leaves : List Leaf) (g : Graph) (constants : List (Value ×
     sides_read (e ∷ es) (q ∷ qs) z =
         ap₂ (λ (s : ℕ × ℕ) (ss : List (ℕ × ℕ)). s ∷ ss) (ap₂ (λ (m n : ℕ). (m, n)) (class_of_number (e.0) (q.0) (z.0.0)) (class_of_number (e.1) (q.1) (z.0.1))) (sides_read es qs (z.1))
 
+    -- ---- NULL beside SOME
+
+    abbrev meets : Value → Bool
+    meets c = is_null c && list_any (λ s. class_by classes (t.Constant c) == class_by classes s) (somes_of p)
+
+    constant_has : (x : Value × ℕ) → In x constants → Has (t.Constant (x.0)) (x.1)
+    constant_has x i = All-contains (λ (y : Value × ℕ). Has (t.Constant (y.0)) (y.1)) constants x numbered.constants_have (contains_from_in constants x i)
+
+    -- a NULL that shares its class with a SOME of the pair is not apart
+    none_meets : AreClasses g classes → All (IsApart g) constants → list_any meets (constants_of p) ≡ true → ⊥
+    none_meets are apart e =
+        let c = any_in meets (constants_of p) e in
+        let parts = and_parts (is_null (c.0)) (list_any (λ s. class_by classes (t.Constant (c.0)) == class_by classes s) (somes_of p)) (c.2) in
+        let s = any_in (λ s. class_by classes (t.Constant (c.0)) == class_by classes s) (somes_of p) (parts.1) in
+        let there = in_filter is_some (terms_of p) (s.0) (s.1) in
+        let inside = some_shape (s.0) (there.1) in
+        let x = in_map_back (λ (y : Value × ℕ). y.0) constants (c.0) (subst (λ (cs : List Value). In (c.0) cs) (sym numbered.constants_are) (c.1)) in
+        let null : Has (t.Constant (c.0)) ((x.0).1) = subst (λ (y : Value). Has (t.Constant y) ((x.0).1)) (x.2) (constant_has (x.0) (x.1)) in
+        let node = application_forth (s.0) some_symbol (inside.0 ∷ []) (contains_from_in (terms_of p) (s.0) (there.0), inside.1) in
+        let part = one_number (inside.0) (node.1) (node.4) in
+        let told = are.exactly ((x.0).1) (node.0) (number_within leaves g.nodes (t.Constant (c.0)) ((x.0).1) null)
+        (number_within leaves g.nodes (s.0) (node.0) (node.2)) in
+        let same : slice_index classes ((x.0).1) ≡ slice_index classes (node.0) =
+        class_of_number (t.Constant (c.0)) ((x.0).1) null ∙ eqb-true (class_by classes (t.Constant (c.0))) (class_by classes (s.0)) (s.2) ∙ sym
+        (class_of_number (s.0) (node.0) (node.2)) in
+        let some : MeetsSome g ((x.0).1) = (node.0, part.0, subst (IsNode g (node.0) some_symbol) (part.1) (node.3), told.0 same) in
+        All-contains (IsApart g) constants (x.0) apart (contains_from_in constants (x.0) (x.1)) (ap is_null (x.2) ∙ parts.0) some
+      where
+        one_number : (a : SqlTerm) (ns : List ℕ) → AllZip Has (a ∷ []) ns → (n : ℕ) × (ns ≡ n ∷ [])
+        one_number a [] z = absurd z
+        one_number a (n ∷ []) z = (n, refl)
+        one_number a (n ∷ m ∷ ns) z = absurd (z.1)
+
+    -- and where none does, each is apart
+    each_apart : AreClasses g classes → (list_any meets (constants_of p) ≡ true → ⊥) → All (IsApart g) constants
+    each_apart are none = All-from_recursion (IsApart g) constants (all_by_members (IsApart g) constants apart)
+      where
+        apart : (x : Value × ℕ) → In x constants → IsApart g x
+        apart x i null some =
+            let term = application_back (some.0) some_symbol (some.1 ∷ []) (some.2) in
+            let there = in_from_filter is_some (terms_of p) (term.0) (in_from_contains (terms_of p) (term.0) (term.3.0))
+            (symbol_is (term.0) (term.1) (term.3.1)) in
+            let told = are.exactly (x.1) (some.0) (number_within leaves g.nodes (t.Constant (x.0)) (x.1) (constant_has x i))
+            (number_within leaves g.nodes (term.0) (some.0) (term.2)) in
+            let same = eq-eqb (class_by classes (t.Constant (x.0))) (class_by classes (term.0))
+            (sym (class_of_number (t.Constant (x.0)) (x.1) (constant_has x i)) ∙ told.1 (some.3) ∙ class_of_number (term.0) (some.0) (term.2)) in
+            let mine : In (x.0) (constants_of p) = subst (λ (cs : List Value). In (x.0) cs) numbered.constants_are
+            (in_map (λ (y : Value × ℕ). y.0) constants x i) in
+            none (any_from meets (constants_of p) (x.0) mine
+            (and_from (is_null (x.0)) (list_any (λ s. class_by classes (t.Constant (x.0)) == class_by classes s) (somes_of p)) null
+            (any_from (λ s. class_by classes (t.Constant (x.0)) == class_by classes s) (somes_of p) (term.0) there same)))
+
+    met : AreClasses g classes → (apart : Bool) → IsTrue apart ↔ All (IsApart g) constants → not apart ≡ list_any meets (constants_of p)
+    met are apart told = go apart (list_any meets (constants_of p)) refl refl
+      where
+        go : (a b : Bool) → apart ≡ a → list_any meets (constants_of p) ≡ b → not apart ≡ list_any meets (constants_of p)
+        go true true e f = absurd (none_meets are (told.0 e) f)
+        go true false e f = ap not e ∙ sym f
+        go false true e f = ap not e ∙ sym f
+        go false false e f = absurd (true≢false (sym (told.1 (each_apart are (λ h. true≢false (sym h ∙ f)))) ∙ e))
+
     -- what is read at the numbers of a pair's terms are its classes
     pub are_classes : AreClasses g classes → (keys args : List ℕ) (sides : List (ℕ × ℕ))
         → AllZip Has (key_terms p.keys) keys → AllZip Has (arg_terms p.args) args → HaveNumbers leaves g.nodes p.disequations sides
-        → AreClassesOf p (classes_record (classes_at classes keys) (classes_at classes args) (constants_at classes constants) (sides_at classes sides))
-    are_classes are keys args sides key_numbers arg_numbers side_numbers = record {
+        → (apart : Bool) → IsTrue apart ↔ All (IsApart g) constants
+        → AreClassesOf p (classes_record (classes_at classes keys) (classes_at classes args) (constants_at classes constants) (sides_at classes sides)
+        (not apart))
+    are_classes are keys args sides key_numbers arg_numbers side_numbers apart told = record {
       class = class_by classes;
       tells = tells classes are;
       are = read
           (numbers_read t.Key (range_with_len 0 p.keys) keys key_numbers)
           (numbers_read t.Arg (range_with_len 0 p.args) args arg_numbers)
           (constants_read constants (recursion_from_All (λ c. Has (t.Constant (c.0)) (c.1)) constants numbered.constants_have) ∙ ap (map (λ (c : Value). (c, class_by classes (t.Constant c)))) numbered.constants_are)
-          (sides_read p.disequations sides side_numbers);
+          (sides_read p.disequations sides side_numbers)
+          (met are apart told);
     }
       where
-        read : {ks ks' as' bs : List ℕ} {cs ds : List (Value × ℕ)} {ss us : List (ℕ × ℕ)} → ks ≡ ks' → as' ≡ bs → cs ≡ ds → ss ≡ us
-            → classes_record ks as' cs ss ≡ classes_record ks' bs ds us
-        read e f h i = λ x. classes_record (e x) (f x) (h x) (i x)
+        read : {ks ks' as' bs : List ℕ} {cs ds : List (Value × ℕ)} {ss us : List (ℕ × ℕ)} {m n : Bool} → ks ≡ ks' → as' ≡ bs → cs ≡ ds → ss ≡ us → m ≡ n
+            → classes_record ks as' cs ss m ≡ classes_record ks' bs ds us n
+        read e f h i j = λ x. classes_record (e x) (f x) (h x) (i x) (j x)
 
 -- ---- all numbers have classes
 
@@ -201,6 +269,16 @@ all_within p numbers classes are size = (
   All-from_recursion (λ (s : ℕ × ℕ). (s.0 < length classes) × (s.1 < length classes)) numbers.sides (sides_within numbers.numbering.leaves.keys numbers.numbering.closure.nodes (length classes) size p.disequations numbers.sides are.sides),
 )
 
-pub pair_classes : (p : Pair) (numbers : PairNumbers) (classes : List ℕ) → AreNumbersOf p numbers → AreClasses numbers.numbering.closure classes → AreClassesOf p (read_at classes numbers)
-pair_classes p numbers classes are tell =
-    are_classes p numbers.numbering.leaves.keys numbers.numbering.closure numbers.numbering.constants are.stands.numbered are.stands.equated classes tell numbers.keys numbers.args numbers.sides are.keys are.args are.sides
+pub constants_within : (p : Pair) (numbers : PairNumbers) → AreNumbersOf p numbers →
+    All (λ c. HasTerm numbers.numbering.closure (c.1)) numbers.numbering.constants
+constants_within p numbers are =
+    All-weaker (λ (c : Value × ℕ). IsNumber numbers.numbering.leaves.keys numbers.numbering.closure.nodes (t.Constant (c.0)) (c.1))
+    (λ (c : Value × ℕ). HasTerm numbers.numbering.closure (c.1))
+    (λ c h. number_within numbers.numbering.leaves.keys numbers.numbering.closure.nodes (t.Constant (c.0)) (c.1) h) numbers.numbering.constants
+    are.stands.numbered.constants_have
+
+pub pair_classes : (p : Pair) (numbers : PairNumbers) (classes : List ℕ) → AreNumbersOf p numbers → AreClasses numbers.numbering.closure classes
+    → (apart : Bool) → IsTrue apart ↔ AreApart numbers.numbering → AreClassesOf p (read_at classes numbers (not apart))
+pair_classes p numbers classes are tell apart told =
+    are_classes p numbers.numbering.leaves.keys numbers.numbering.closure numbers.numbering.constants are.stands.numbered are.stands.equated classes tell
+    numbers.keys numbers.args numbers.sides are.keys are.args are.sides apart told

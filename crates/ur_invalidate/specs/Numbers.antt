@@ -1,7 +1,7 @@
 -- The numbers of terms in a closure.
 use Rattle.std.specs.Prelude.{◌≡◌, ℕ, Bool, List, [], ◌∷◌, map, filter_map, All, Contains, Option, Some, None, option_map, slice_get}
 use Rattle.std.specs.List.{AllZip, position_from}
-use Rattle.ur_values.specs.declared.value.Value.{Value}
+use Rattle.ur_values.specs.declared.value.Value.{Value, more_of-Value, end_of-Value}
 use Rattle.ur_values.specs.declared.value.Value.TheVariants as v
 use Rattle.ur_values.specs.declared.atom.Atom.{Atom}
 use Rattle.ur_values.specs.declared.atom.Atom.TheVariants as atom
@@ -10,6 +10,7 @@ use Rattle.ur_sql.specs.declared.term.SqlTerm.TheVariants as t
 use Rattle.ur_congruence.specs.declared.terms.TermNode.{TermNode}
 use Rattle.ur_congruence.specs.declared.terms.TermNode.TheVariants.{Variable, Apply}
 use Rattle.ur_congruence.specs.contracts.terms.TermNodePartialEq.TheImpl as nodes
+use Rattle.ur_congruence.specs.Derives.{some_symbol}
 use Rattle.ur_conditions.specs.Disjuncts.{Equation}
 use Rattle.ur_conditions.specs.Terms.{constant_of}
 use Rattle.ur_invalidate.specs.declared.leaf.Leaf.{Leaf}
@@ -23,11 +24,20 @@ node_eq = nodes.eq-value.it
 abbrev pub leaf_eq : Leaf → Leaf → Bool
 leaf_eq = leaves.eq-value.it
 
+-- the atom that stands for Present of a value, if one does
+abbrev pub present_atom : Value → Option Atom
+present_atom (v.Int n) = Some (atom.SomeInt n)
+present_atom (v.Bool b) = Some (atom.SomeBool b)
+present_atom (v.Str s) = Some (atom.SomeStr s)
+present_atom _ = None
+
 -- the atom that stands for a value, if one does
 abbrev pub atom_of : Value → Option Atom
 atom_of (v.Int n) = Some (atom.Int n)
 atom_of (v.Bool b) = Some (atom.Bool b)
 atom_of (v.Str s) = Some (atom.Str s)
+atom_of v.Absent = Some atom.Null
+atom_of (v.Present' _ (more_of-Value x end_of-Value)) = present_atom x
 atom_of _ = None
 
 abbrev pub constant_leaf : Option Atom → Option Leaf
@@ -78,6 +88,7 @@ number_of leaves nodes (t.Add' _ (more a none) _ (more b none)) = applied nodes 
 number_of leaves nodes (t.Sub' _ (more a none) _ (more b none)) = applied nodes 1 (all_numbers (number_of leaves nodes a ∷ number_of leaves nodes b ∷ []))
 number_of leaves nodes (t.Mul' _ (more a none) _ (more b none)) = applied nodes 2 (all_numbers (number_of leaves nodes a ∷ number_of leaves nodes b ∷ []))
 number_of leaves nodes (t.Neg' _ (more a none)) = applied nodes 3 (all_numbers (number_of leaves nodes a ∷ []))
+number_of leaves nodes (t.Present' _ (more a none)) = applied nodes some_symbol (all_numbers (number_of leaves nodes a ∷ []))
 number_of leaves nodes a = leaf_number leaves nodes (leaf_of a)
 
 abbrev pub IsNumber : List Leaf → List TermNode → SqlTerm → ℕ → Type 0

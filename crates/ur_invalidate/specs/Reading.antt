@@ -21,8 +21,9 @@ have_clash constants = list_any (λ c. list_any (clash c) constants) constants
 abbrev pub have_equal_sides : List (ℕ × ℕ) → Bool
 have_equal_sides = list_any (λ d. d.0 == d.1)
 
+-- no two different constants share a class, no NULL and a SOME do, and no disequation's sides share one
 abbrev pub are_consistent : Classes → Bool
-are_consistent classes = not (have_clash classes.constants) && not (have_equal_sides classes.disequations)
+are_consistent classes = not (have_clash classes.constants) && not classes.null_meets_some && not (have_equal_sides classes.disequations)
 
 -- the numbers of the items that are this class, counted from n
 abbrev pub members : ℕ → ℕ → List ℕ → List ℕ

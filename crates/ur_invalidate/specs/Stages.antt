@@ -1,11 +1,14 @@
 -- How far the terms of a pair are numbered.
-use Rattle.std.specs.Prelude.{ℕ, ◌<◌, All, List, [], ◌∷◌, ◌++◌, map, length, slice_index}
+use Rattle.std.specs.Prelude.{◌≡◌, ℕ, ◌<◌, Bool, true, All, List, [], ◌∷◌, ◌++◌, map, length, slice_index}
 use Rattle.std.specs.List.{AllZip}
 use Rattle.ur_values.specs.declared.value.Value.{Value}
 use Rattle.ur_sql.specs.declared.term.SqlTerm.{SqlTerm}
+use Rattle.ur_congruence.specs.Graph.{Graph}
+use Rattle.ur_congruence.specs.Terms.{MeetsSome}
 use Rattle.ur_conditions.specs.declared.pair.Pair.{Pair}
 use Rattle.ur_conditions.specs.Disjuncts.{Equation}
 use Rattle.ur_conditions.specs.Terms.{subterms}
+use Rattle.ur_conditions.specs.Patterns.{is_null}
 use Rattle.ur_conditions.specs.Pairs.{side_terms, key_terms, arg_terms, terms_of}
 use Rattle.ur_invalidate.specs.declared.numbering.Numbering.{Numbering}
 use Rattle.ur_invalidate.specs.declared.pair_numbers.PairNumbers.{PairNumbers}
@@ -68,12 +71,21 @@ constants_at classes = map (λ c. (c.0, slice_index classes c.1))
 abbrev pub sides_at : List ℕ → List (ℕ × ℕ) → List (ℕ × ℕ)
 sides_at classes = map (λ s. (slice_index classes s.0, slice_index classes s.1))
 
-abbrev pub read_at : List ℕ → PairNumbers → Classes
-read_at classes numbers = record {
+-- the constant is no NULL, or no SOME shares its class
+abbrev pub IsApart : Graph → Value × ℕ → Type 0
+IsApart g c = is_null c.0 ≡ true → MeetsSome g c.1 → ⊥
+
+abbrev pub AreApart : Numbering → Type 0
+AreApart numbering = All (IsApart numbering.closure) numbering.constants
+
+-- what is read, where this says whether a NULL and a SOME share a class
+abbrev pub read_at : List ℕ → PairNumbers → Bool → Classes
+read_at classes numbers meet = record {
   keys = classes_at classes numbers.keys;
   args = classes_at classes numbers.args;
   constants = constants_at classes numbers.numbering.constants;
   disequations = sides_at classes numbers.sides;
+  null_meets_some = meet;
 }
 
 -- all of these numbers have classes

@@ -17,11 +17,12 @@ use Rattle.ur_conditions.specs.declared.patterns.Patterns.{Patterns}
 abbrev pub quoted : ℕ → List ℕ
 quoted byte = if byte == 39 then 39 ∷ 39 ∷ [] else byte ∷ []
 
--- A constant as SQL writes it. Constants of statements are ints, bools and texts.
+-- A constant as SQL writes it. Constants of statements are ints, bools, texts and NULL.
 abbrev pub constant_text : Value → List ℕ
 constant_text (v.Int n) = signed_decimal n
 constant_text (v.Bool b) = if b then codes "TRUE" else codes "FALSE"
 constant_text (v.Str text) = codes "'" ++ flat_map quoted text ++ codes "'"
+constant_text v.Absent = codes "NULL"
 constant_text _ = []
 
 -- the argument at this place of an update

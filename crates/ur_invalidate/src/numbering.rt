@@ -4,6 +4,7 @@ ghost use Rattle.ur_values.specs.Atom.{IsAtomic};
 ghost use Rattle.ur_sql.specs.declared.term.SqlTerm.{SqlTerm as TermOf};
 ghost use Rattle.ur_sql.specs.declared.term.SqlTerm.TheVariants as t;
 ghost use Rattle.ur_congruence.specs.declared.terms.TermNode.TheVariants as node;
+ghost use Rattle.ur_congruence.specs.Derives.{some_symbol};
 ghost use Rattle.ur_congruence.specs.Terms.{HasTerm};
 ghost use Rattle.ur_conditions.specs.Terms.{constant_of, HasAtoms};
 ghost use Rattle.ur_invalidate.specs.Numbers.{leaf_of};
@@ -72,6 +73,10 @@ impl Numbering {
                 let part = self.number(alloc, a.get())?;
                 self.apply(3, &[part])
             }
+            SqlTerm::Present(a) => {
+                let part = self.number(alloc, a.get())?;
+                self.inject(part)
+            }
         }
     }
 
@@ -106,6 +111,17 @@ impl Numbering {
             return Err(Memory);
         }
         self.closure.apply(symbol, parts)
+    }
+
+    /// The number of SOME of a term. More terms than the closure has numbers take memory that is not had.
+    fn inject(&mut self, part: Term) -> Result<Term, Memory>
+        requires { HasTerm self.old.closure part.number }
+        ensures { IfOk result (λ number. AddsNode self.old self.new (node.Apply some_symbol (part.number ∷ [])) number.number) }
+    {
+        if self.closure.is_full() {
+            return Err(Memory);
+        }
+        self.closure.inject(part)
     }
 
     /// The number of a constant.

@@ -166,6 +166,7 @@ fn write_constant(alloc: Global, out: &mut Text, constant: &Value) -> Result<(),
         Value::Int(int) => write_int(alloc, out, *int),
         Value::Bool(holds) => out.extend_from_slice(bool_text(*holds)),
         Value::Str(text) => write_text(out, text.as_slice()),
+        Value::Absent => out.extend_from_slice(b"NULL"),
         _ => Ok(()),
     }
 }

@@ -24,11 +24,13 @@ pub fn pattern_from(alloc: Global, site: u32, classes: &Classes) -> Result<Optio
     Ok(Some(Pattern { site, keys, guards }))
 }
 
-/// Whether no two different constants share a class, nor the sides of a disequation.
+/// Whether no two different constants share a class, nor a NULL and a SOME, nor the sides of a disequation.
 fn are_consistent(classes: &Classes) -> bool
     ensures { result ≡ are_consistent classes.now }
 {
-    !have_clash(classes.constants.as_slice()) && !have_equal_sides(classes.disequations.as_slice())
+    !have_clash(classes.constants.as_slice())
+        && !classes.null_meets_some
+        && !have_equal_sides(classes.disequations.as_slice())
 }
 
 /// Whether two different constants share a class.

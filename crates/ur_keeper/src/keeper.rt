@@ -1,5 +1,5 @@
 //! The trait of a keeper of tables.
-ghost use Rattle.std.specs.Prelude.{◌≡◌, ℕ, ◌≤◌, ℤ, Bool, true, false, IsTrue, IsFalse, Option, IfOk, OnOk, OnErr};
+ghost use Rattle.std.specs.Prelude.{◌≡◌, ℕ, ◌≤◌, ℤ, Bool, true, false, IsTrue, IsFalse, Option, IfOk, OnOk, OnErr, IsErrOf};
 ghost use Rattle.ur_keeper.specs.Tables.{Tables, KeptSchema, HasNextNumber, HasNextDraw, HasRowAt, MayCommit, AreRowsOf, inserted, replaced, removed, drawn, table_at, sequence_at};
 ghost use Rattle.ur_base.specs.Counts.{HasCause, next_count};
 ghost use Rattle.ur_base.specs.Told.{WhereTold, Becomes};
@@ -53,6 +53,9 @@ pub trait Keeper {
 
     /// How often the keeper has failed.
     ghost faults: { Self → ℕ };
+
+    /// Whether a commit takes no memory.
+    ghost commits_in_room: { Bool };
 
     /// Takes the store for this schema: an empty one keeps it, and one that keeps an equal one is as it was.
     fn attach(&mut self, schema: &Schema) -> Result<Attached, KeeperEnd>
@@ -138,6 +141,7 @@ pub trait Keeper {
         requires keys { OfSchema (kept self.old) (current self.old) MayCommit }
         ensures saved { OnOk result ((saved self.new ≡ current self.old) × (current self.new ≡ current self.old)) }
         ensures ended { OnOk result ((under_way self.new ≡ false) × (kept self.new ≡ kept self.old)) }
+        ensures in_room { commits_in_room ≡ true → IsErrOf result KeeperEnd.Memory → ⊥ }
         ensures undone { OnErr result (IsUndone (saved self.old) (saved self.new) (current self.new) (kept self.old) (kept self.new) (under_way self.new)) }
         ensures reads { reads self.new ≡ reads self.old }
         ensures cause { HasCause KeeperEnd.Failed (faults self.old) (faults self.new) result };

@@ -146,6 +146,8 @@ impl Keeper for MemoryKeeper {
 
     ghost faults = { λ m. m.plan.faults };
 
+    ghost commits_in_room = { true };
+
     ghost at_rest = { λ m rest. Prim.rw rest refl };
 
     /// Fails exactly where it is listed and where a store with an equal schema has a fault.

@@ -2,6 +2,7 @@ pub mod Places
 pub mod Tables
 mod Examples
 pub mod Named
+pub mod Options
 pub mod Reading
 pub mod RowLaws
 pub mod Splitting

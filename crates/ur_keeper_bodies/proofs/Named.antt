@@ -88,11 +88,17 @@ kind-read : (k : ColumnKind) → kind_of (kind_text k) ≡ Some k
 kind-read kind.Int = refl
 kind-read kind.Str = refl
 kind-read kind.Bool = refl
+kind-read kind.OptInt = refl
+kind-read kind.OptStr = refl
+kind-read kind.OptBool = refl
 
 kind-lacks : (k : ColumnKind) → Lacks 58 (kind_text k) × Lacks 32 (kind_text k) × Lacks 10 (kind_text k)
 kind-lacks kind.Int = (refl, refl, refl)
 kind-lacks kind.Str = (refl, refl, refl)
 kind-lacks kind.Bool = (refl, refl, refl)
+kind-lacks kind.OptInt = (refl, refl, refl)
+kind-lacks kind.OptStr = (refl, refl, refl)
+kind-lacks kind.OptBool = (refl, refl, refl)
 
 column-read : (c : List ℕ × ColumnKind) → IsColumn c → column_of (column_word c) ≡ Some c
 column-read c h =

@@ -9,13 +9,16 @@ use Rattle.std.proofs.lemmas.Int.{ints, to_z-of_z}
 use Rattle.std.proofs.lemmas.List.{length-append}
 use Rattle.std.proofs.lemmas.List.Elements.{All-head, All-tail}
 use Rattle.std.proofs.lemmas.Nat.{from_be_bytes-to_be_bytes_4, from_be_bytes-to_be_bytes_8}
-use Rattle.ur_values.specs.declared.value.Value.{Value}
+use denote.Hole.Carrier as Carrier
+use Rattle.ur_values.specs.declared.value.Value.{Value, end_of-Value, more_of-Value}
+use Rattle.ur_values.specs.declared.value.Node.TheBlock as block
+use Rattle.ur_values.specs.Size.{size}
 use Rattle.ur_values.specs.declared.value.Value.TheVariants as v
 use Rattle.ur_values.specs.declared.schema.ColumnKind.{ColumnKind}
 use Rattle.ur_values.specs.declared.schema.ColumnKind.TheVariants as kind
-use Rattle.ur_values.specs.Store.{Row, FitKinds, FitsKind, IsStorable}
+use Rattle.ur_values.specs.Store.{Row, FitKinds, FitsBasic, FitsKind, FitsOption, IsStorable}
 use Rattle.ur_values.specs.Values.{IsInt}
-use Rattle.ur_keeper_bodies.specs.Rows.{int_body, text_body, value_body, row_body, front, int_of, text_of, value_of, row_of}
+use Rattle.ur_keeper_bodies.specs.Rows.{int_body, text_body, basic_body, basic_of, option_of, present_of, value_body, row_body, front, int_of, text_of, value_of, row_of}
 use Rattle.ur_keeper_bodies.proofs.Texts.{may-be}
 
 front-of : (xs rest : List ℕ) → front (length xs) (xs ++ rest) ≡ Some (xs, rest)
@@ -51,14 +54,43 @@ text-read t rest u l =
     grouped [] = refl
     grouped (x ∷ xs) = ap (λ r. x ∷ r) (grouped xs)
 
+-- an int, a text or a bool that was written is read, whatever stands behind it
+basic-read-back : (x : Value) (k : ColumnKind) (rest : List ℕ) → FitsBasic x k → IsStorable x → basic_of k (basic_body x ++ rest) ≡ Some (x, rest)
+basic-read-back (v.Int n) kind.Int rest f s =
+    ap (option_map {U = Value × List ℕ} (λ p. (v.Int (int_of p.0), p.1))) (front-is 8 (int_body n) rest refl) ∙ ap (λ (z : ℤ). Some (v.Int z, rest)) (int-read n f)
+basic-read-back (v.Str t) kind.Str rest f s = text-read t rest f s
+basic-read-back (v.Bool true) kind.Bool rest f s = refl
+basic-read-back (v.Bool false) kind.Bool rest f s = refl
+basic-read-back x k rest f s = elim f [ ]
+
+-- such a value is written by itself
+basic-body-is : (x : Value) (k : ColumnKind) → FitsBasic x k → value_body x ≡ basic_body x
+basic-body-is (v.Int n) kind.Int f = refl
+basic-body-is (v.Str t) kind.Str f = refl
+basic-body-is (v.Bool b) kind.Bool f = refl
+basic-body-is _ _ f = absurd f
+
+plain-read-back : (x : Value) (k : ColumnKind) (rest : List ℕ) → FitsBasic x k → IsStorable x → basic_of k (value_body x ++ rest) ≡ Some (x, rest)
+plain-read-back x k rest f s = ap (λ (b : List ℕ). basic_of k (b ++ rest)) (basic-body-is x k f) ∙ basic-read-back x k rest f s
+
+-- an option that was written is read
+option-read-back : (k : ColumnKind) (x : Value) (rest : List ℕ) → FitsOption k x → IsStorable x → option_of k (value_body x ++ rest) ≡ Some (x, rest)
+unfolding block.hidden-the_row-Value-3 Carrier.hidden
+option-read-back k v.Absent rest f s = refl
+option-read-back k (v.Present' u (more_of-Value x end_of-Value)) rest f s =
+    let small : size x ≤ 16777216 = omega (arith, s) in
+    let fits : nat_le (32 + size x) 16777216 ≡ true = le-leb (32 + size x) 16777216 s in
+    ap (option_and_then present_of) (basic-read-back x k rest f small) ∙ ap (λ b. if b then Some (v.Present x, rest) else None) fits
+option-read-back k _ rest f s = absurd f
+
 -- a value that was written is read, whatever stands behind it
 pub value-read-back : (x : Value) (k : ColumnKind) (rest : List ℕ) → FitsKind x k → IsStorable x → value_of k (value_body x ++ rest) ≡ Some (x, rest)
-value-read-back (v.Int n) kind.Int rest f s =
-    ap (option_map {U = Value × List ℕ} (λ p. (v.Int (int_of p.0), p.1))) (front-is 8 (int_body n) rest refl) ∙ ap (λ (z : ℤ). Some (v.Int z, rest)) (int-read n f)
-value-read-back (v.Str t) kind.Str rest f s = text-read t rest f s
-value-read-back (v.Bool true) kind.Bool rest f s = refl
-value-read-back (v.Bool false) kind.Bool rest f s = refl
-value-read-back x k rest f s = elim f [ ]
+value-read-back x kind.Int rest f s = plain-read-back x kind.Int rest f s
+value-read-back x kind.Str rest f s = plain-read-back x kind.Str rest f s
+value-read-back x kind.Bool rest f s = plain-read-back x kind.Bool rest f s
+value-read-back x kind.OptInt rest f s = option-read-back kind.Int x rest f s
+value-read-back x kind.OptStr rest f s = option-read-back kind.Str x rest f s
+value-read-back x kind.OptBool rest f s = option-read-back kind.Bool x rest f s
 
 pub row-read-back : (kinds : List ColumnKind) (row : Row) → FitKinds row kinds → All IsStorable row → row_of kinds (row_body row) ≡ Some row
 row-read-back [] [] f s = refl

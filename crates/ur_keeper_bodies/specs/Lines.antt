@@ -15,6 +15,9 @@ kind_of word =
     if bytes_eq word (codes "int") then Some kind.Int
     else if bytes_eq word (codes "string") then Some kind.Str
     else if bytes_eq word (codes "bool") then Some kind.Bool
+    else if bytes_eq word (codes "int?") then Some kind.OptInt
+    else if bytes_eq word (codes "string?") then Some kind.OptStr
+    else if bytes_eq word (codes "bool?") then Some kind.OptBool
     else None
 
 abbrev pub column_of_parts : List (List ℕ) → Option (List ℕ × ColumnKind)

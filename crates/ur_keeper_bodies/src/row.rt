@@ -1,14 +1,14 @@
 //! Rows and next numbers as bytes.
-ghost use Rattle.std.specs.Prelude.{◌≡◌, ◌≤◌, ◌++◌, All, IfOk, OnOk, IfSome, IsTrue, IsUtf8, length};
+ghost use Rattle.std.specs.Prelude.{◌≡◌, ◌<◌, ◌≤◌, ◌++◌, ◌∷◌, All, IfOk, OnOk, IfSome, IsTrue, IsUtf8, length};
 ghost use Rattle.ur_values.specs.Size.{greatest_size};
 ghost use Rattle.ur_values.specs.Store.{IsStorable};
-ghost use Rattle.ur_keeper_bodies.specs.Rows.{int_body, value_body, row_body, int_front, bool_of, value_of, row_of, number_of, may_be_text, kinds_in, text_body, with_rest, MayBeRead, MayStand, RowsAreReadBack};
+ghost use Rattle.ur_keeper_bodies.specs.Rows.{int_body, basic_body, basic_of, option_of, present_at, value_body, row_body, int_front, bool_of, value_of, row_of, number_of, may_be_text, kinds_in, text_body, with_rest, MayBeBasic, MayBeOption, MayBeRead, MayStand, RowsAreReadBack};
 ghost use Rattle.ur_values.specs.declared.value.Value.TheVariants as v;
 ghost use Rattle.ur_values.specs.declared.schema.ColumnKind.TheVariants as kind;
 
 use std::alloc::Global;
 use std::str;
-use ur_base::{Bytes, List, Memory, Text};
+use ur_base::{Boxed, Bytes, List, Memory, Text};
 use ur_values::{ColumnKind, Row, Value};
 
 /// The bytes of a row: its values, one after the other.
@@ -26,6 +26,25 @@ pub fn row_bytes(alloc: Global, row: &Row) -> Result<Bytes, Memory>
 fn write_value(bytes: &mut Bytes, value: &Value) -> Result<(), Memory>
     requires { IsStorable value.now }
     ensures { OnOk result (bytes.new ≡ bytes.old ++ value_body value.now) }
+{
+    match value {
+        Value::Absent => bytes.push(0),
+        Value::Present(held) => write_present(bytes, held.get()),
+        _ => write_basic(bytes, value),
+    }
+}
+
+fn write_present(bytes: &mut Bytes, held: &Value) -> Result<(), Memory>
+    requires { IsStorable held.now }
+    ensures { OnOk result (bytes.new ≡ bytes.old ++ 1 ∷ basic_body held.now) }
+{
+    bytes.push(1)?;
+    write_basic(bytes, held)
+}
+
+fn write_basic(bytes: &mut Bytes, value: &Value) -> Result<(), Memory>
+    requires { IsStorable value.now }
+    ensures { OnOk result (bytes.new ≡ bytes.old ++ basic_body value.now) }
 {
     match value {
         Value::Int(number) => bytes.extend_from_slice(&number.to_be_bytes()),
@@ -78,10 +97,66 @@ fn read_value(
     ensures within { IfOk result (λ found. IfSome found (MayBeRead column bytes.now)) }
 {
     match column {
+        ColumnKind::Int => read_basic(alloc, ColumnKind::Int, bytes),
+        ColumnKind::Str => read_basic(alloc, ColumnKind::Str, bytes),
+        ColumnKind::Bool => read_basic(alloc, ColumnKind::Bool, bytes),
+        ColumnKind::OptInt => read_option(alloc, ColumnKind::Int, bytes),
+        ColumnKind::OptStr => read_option(alloc, ColumnKind::Str, bytes),
+        ColumnKind::OptBool => read_option(alloc, ColumnKind::Bool, bytes),
+    }
+}
+
+/// An int, a text or a bool at the front of the bytes.
+fn read_basic(
+    alloc: Global,
+    column: ColumnKind,
+    bytes: &[u8],
+) -> Result<Option<(Value, usize)>, Memory>
+    ensures value { IfOk result (λ found. with_rest bytes.now found ≡ basic_of column bytes.now) }
+    ensures within { IfOk result (λ found. IfSome found (MayBeBasic column bytes.now)) }
+{
+    match column {
         ColumnKind::Int => Ok(read_int(bytes)),
         ColumnKind::Str => read_text(alloc, bytes),
         ColumnKind::Bool => Ok(read_bool(bytes)),
+        _ => Ok(None),
     }
+}
+
+/// An option at the front of the bytes: a byte 0, or a byte 1 and a value.
+fn read_option(
+    alloc: Global,
+    of: ColumnKind,
+    bytes: &[u8],
+) -> Result<Option<(Value, usize)>, Memory>
+    ensures value { IfOk result (λ found. with_rest bytes.now found ≡ option_of of bytes.now) }
+    ensures within { IfOk result (λ found. IfSome found (MayBeOption of bytes.now)) }
+{
+    let Some((first, rest)) = bytes.split_first() else {
+        return Ok(None);
+    };
+    if *first == 0 {
+        return Ok(Some((Value::Absent, 1)));
+    }
+    if *first != 1 {
+        return Ok(None);
+    }
+    let Some((value, taken)) = read_basic(alloc, of, rest)? else {
+        return Ok(None);
+    };
+    present(alloc, value, taken)
+}
+
+/// Present of a value that takes so many bytes, one of which stands before it, if it may stand in a table.
+fn present(alloc: Global, value: Value, taken: usize) -> Result<Option<(Value, usize)>, Memory>
+    requires { taken < 9223372036854775808 }
+    ensures { IfOk result (λ found. found ≡ present_at value taken) }
+{
+    if value.size() > 16777184 {
+        return Ok(None);
+    }
+    let held = Boxed::new(alloc, value)?;
+    Ok(Some((Value::Present(held), taken + 1)))
 }
 
 fn read_int(bytes: &[u8]) -> Option<(Value, usize)>

@@ -256,6 +256,15 @@ fn kind_of(word: &Text) -> Option<ColumnKind>
     if word.as_slice() == b"bool".as_slice() {
         return Some(ColumnKind::Bool);
     }
+    if word.as_slice() == b"int?".as_slice() {
+        return Some(ColumnKind::OptInt);
+    }
+    if word.as_slice() == b"string?".as_slice() {
+        return Some(ColumnKind::OptStr);
+    }
+    if word.as_slice() == b"bool?".as_slice() {
+        return Some(ColumnKind::OptBool);
+    }
     None
 }
 /// The pieces of a text between marks.

@@ -111,6 +111,8 @@ impl<B: Bodies + Drop> Keeper for Kept<B> {
 
     ghost faults = { λ k. B.faults k.bodies + k.found };
 
+    ghost commits_in_room = { false };
+
     ghost at_rest = { λ k rest. Prim.rw rest refl };
 
     /// A fault of the bodies is answered, and one that is found in what they hold.

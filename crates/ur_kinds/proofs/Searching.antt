@@ -2,7 +2,7 @@
 use Rattle.std.proofs.Common.{◌≡◌, ◌≢◌, refl, ap, ap₂, sym, ◌∙◌, subst, ℕ, suc, ◌+◌, ◌<◌, ◌≤◌, arith, List, [], ◌∷◌, length, drop, get_or, Option, Some, None, Result, Ok, Err, OnOk, true≢false}
 use Rattle.std.specs.Result.{IsErrAnd}
 use Rattle.std.proofs.Math.Seq.{drop-cons, drop-length}
-use Rattle.ur_base.specs.Stopping.{IfRefused}
+use Rattle.ur_base.specs.Stopping.{IfRefused, Says}
 use Rattle.ur_base.specs.declared.refusal.Span.{Span}
 use Rattle.ur_base.specs.declared.refusal.Refusal.{Refusal}
 use Rattle.ur_base.specs.declared.refusal.Stop.{Stop}
@@ -16,9 +16,9 @@ use Rattle.ur_kinds.specs.Kindless.{Told, HasNoKind, HasNotKind}
 use Rattle.ur_kinds.specs.declared.event.Event.{Event}
 use Rattle.ur_kinds.specs.declared.state.State.{State}
 use Rattle.ur_kinds.specs.Acts.{Act, act_of, acts, plain, written, argument}
-use Rattle.ur_kinds.specs.Keys.{placed, ButNames}
+use Rattle.ur_kinds.specs.Keys.{ButNames}
 use Rattle.ur_kinds.specs.KindedFaults.{Fits, Lacks, LacksAny, Misplaced, IsKinded, Breaks, AreKinded, FirstFault, here, later, after, wanted_of}
-use Rattle.ur_kinds.specs.KindedLaws.{FaultyIsNotKinded, EachHasItsKind}
+use Rattle.ur_kinds.specs.KindedLaws.{FaultyIsNotKinded, OneFaultOfKinds, EachHasItsKind}
 
 -- ---- refusals for names
 
@@ -36,17 +36,18 @@ names-known : (P : Type 0) (o : Option (List ℕ)) (r : Refusal) → r.code ≢ 
 names-known P None r n t = refl
 names-known P (Some x) r n t = absurd (n t.0)
 
--- what is told of a fault does not speak of the place
-tells-placed : (p : Span) (r : Refusal) (f : Fault) → TellsKind r f → TellsKind (placed p r) f
-tells-placed p r (unknown x) t = t
-tells-placed p r (bad_kind found wanted) t = t
+-- what is told of a fault is its code and texts, and not the place
+tells-again : (r q : Refusal) (f : Fault) → Says q r.code r.left r.right → TellsKind r f → TellsKind q f
+tells-again r q (unknown x) e t = (e.0 ∙ t.0, e.1 ∙ t.1, e.2 ∙ t.2)
+tells-again r q (bad_kind found wanted) e t = (e.0 ∙ t.0, e.1 ∙ t.1, e.2 ∙ t.2)
 
-fault-placed : {s : Scope} {c : ConForm} (p : Span) (r : Refusal) → HasFault s c r → HasFault s c (placed p r)
-fault-placed p r f = record { fault = f.fault; scope = f.scope; place = f.place; stands = f.stands; broken = f.broken; told = tells-placed p r f.fault f.told }
+fault-again : {s : Scope} {c : ConForm} (r q : Refusal) → Says q r.code r.left r.right → HasFault s c r → HasFault s c q
+fault-again r q e f =
+    record { fault = f.fault; scope = f.scope; place = f.place; stands = f.stands; broken = f.broken; told = tells-again r q f.fault e f.told }
 
-misfit-placed : {s : Scope} {c : ConForm} {k : Kind} (p : Span) (r : Refusal) → Misfits s c k r → Misfits s c k (placed p r)
-misfit-placed p r (faulty f) = faulty (fault-placed p r f)
-misfit-placed p r (other_kind h n t) = other_kind h n t
+misfit-again : {s : Scope} {c : ConForm} {k : Kind} (r q : Refusal) → Says q r.code r.left r.right → Misfits s c k r → Misfits s c k q
+misfit-again r q e (faulty f) = faulty (fault-again r q e f)
+misfit-again r q e (other_kind {found = found} {wanted = wanted} h n t) = other_kind h n (tells-again r q (bad_kind found wanted) e t)
 
 pub passed-kinded : (s : Scope) (p : Span) (c : ConForm) (k : Kind) (e : Stop) (r : Result (Unit {0}) Stop) → ButNames p e r → IfRefused {A = Unit {0}} (Err e) (HasNotKind s c k) → OnOk r (Fits s c (Some k))
 passed-kinded s p c k (stop.Refused x) (Ok a) b h = λ known. apart x.code b (kinds-told _ (unknown_in s c) x known h.told).0
@@ -57,14 +58,14 @@ pub passed-refused : (s : Scope) (p : Span) (c : ConForm) (k : Kind) (e : Stop) 
 passed-refused s p c k e (Ok a) b h = tt
 passed-refused s p c k e (Err stop.Memory) b h = tt
 passed-refused s p c k stop.Memory (Err (stop.Refused q)) b h = absurd b
-passed-refused s p c k (stop.Refused x) (Err (stop.Refused q)) b h = subst (Misplaced s p c (Some k)) (sym b.0) (lacks (names-known _ (unknown_in s c) x b.1 h.told)) where
-  lacks : unknown_in s c ≡ None → Lacks s p c k (placed p x)
-  lacks known = record {
+passed-refused s p c k (stop.Refused x) (Err (stop.Refused q)) b h = lacks (names-known _ (unknown_in s c) x b.2 h.told) where
+  lacks : unknown_in s c ≡ None → Lacks s p c k q
+  lacks known = let told = kinds-told _ (unknown_in s c) x known h.told in record {
     known = known;
     none = h.none;
-    code = (kinds-told _ (unknown_in s c) x known h.told).0;
-    place = refl;
-    told = misfit-placed p x (kinds-told _ (unknown_in s c) x known h.told).1;
+    code = b.0.0 ∙ told.0;
+    place = b.1;
+    told = misfit-again x q b.0 told.1;
   }
 
 pub any-kinded : (s : Scope) (p : Span) (c : ConForm) (e : Stop) (r : Result (Unit {0}) Stop) → ButNames p e r → IfRefused {A = Unit {0}} (Err e) (HasNoKind s c) → OnOk r (Fits s c None)
@@ -76,14 +77,14 @@ pub any-refused : (s : Scope) (p : Span) (c : ConForm) (e : Stop) (r : Result (U
 any-refused s p c e (Ok a) b h = tt
 any-refused s p c e (Err stop.Memory) b h = tt
 any-refused s p c stop.Memory (Err (stop.Refused q)) b h = absurd b
-any-refused s p c (stop.Refused x) (Err (stop.Refused q)) b h = subst (Misplaced s p c None) (sym b.0) (lacks (names-known _ (unknown_in s c) x b.1 h.told)) where
-  lacks : unknown_in s c ≡ None → LacksAny s p c (placed p x)
-  lacks known = record {
+any-refused s p c (stop.Refused x) (Err (stop.Refused q)) b h = lacks (names-known _ (unknown_in s c) x b.2 h.told) where
+  lacks : unknown_in s c ≡ None → LacksAny s p c q
+  lacks known = let told = kinds-told _ (unknown_in s c) x known h.told in record {
     known = known;
     none = h.none;
-    code = (kinds-told _ (unknown_in s c) x known h.told).0;
-    place = refl;
-    told = fault-placed p x (kinds-told _ (unknown_in s c) x known h.told).1;
+    code = b.0.0 ∙ told.0;
+    place = b.1;
+    told = fault-again x q b.0 told.1;
   }
 
 -- ---- along the acts
@@ -145,6 +146,24 @@ pub fault-unkinded : FaultyIsNotKinded
 fault-unkinded s [] r x k = elim x [ ]
 fault-unkinded s (a ∷ more) r (here b) k = breaks-kinded s a r b k.0
 fault-unkinded s (a ∷ more) r (later i f) k = fault-unkinded (after s a) more r f k.1
+
+one-misplaced : (s : Scope) (p : Span) (c : ConForm) (o : Option Kind) (q r : Refusal) → Misplaced s p c o q → Misplaced s p c o r
+    → (q.code ≡ r.code) × (q.span ≡ r.span)
+one-misplaced s p c (Some k) q r m n = (m.code ∙ sym n.code, m.place ∙ sym n.place)
+one-misplaced s p c None q r m n = (m.code ∙ sym n.code, m.place ∙ sym n.place)
+
+one-break : (s : State) (a : Act) (q r : Refusal) → Breaks s a q → Breaks s a r → (q.code ≡ r.code) × (q.span ≡ r.span)
+one-break s (written c k) q r b d = (b.code ∙ sym d.code, b.place ∙ sym d.place)
+one-break s (argument f c) q r b d = one-misplaced _ c.span c.form (wanted_of s f) q r b d
+one-break s (plain p k) q r b d = (b.1.0 ∙ sym d.1.0, b.2 ∙ sym d.2)
+one-break s _ q r b d = absurd b
+
+pub one-fault : OneFaultOfKinds
+one-fault s [] q r x y = elim x [ ]
+one-fault s (a ∷ more) q r (here b) (here d) = one-break s a q r b d
+one-fault s (a ∷ more) q r (here b) (later i f) = absurd (breaks-kinded s a q b i)
+one-fault s (a ∷ more) q r (later i f) (here d) = absurd (breaks-kinded s a r d i)
+one-fault s (a ∷ more) q r (later i f) (later j g) = one-fault (after s a) more q r f g
 
 pub each : EachHasItsKind
 each s [] behind c k h e = h.0 e

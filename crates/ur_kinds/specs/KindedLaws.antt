@@ -13,6 +13,10 @@ use Rattle.ur_kinds.specs.KindedFaults.{after_all, AreKinded, FirstFault}
 abbrev pub FaultyIsNotKinded : Type 0
 FaultyIsNotKinded = (s : State) (acts : List Act) (r : Refusal) → FirstFault s acts r → AreKinded s acts → ⊥
 
+-- two refusals of one source name one place
+abbrev pub OneFaultOfKinds : Type 0
+OneFaultOfKinds = (s : State) (acts : List Act) (q r : Refusal) → FirstFault s acts q → FirstFault s acts r → (q.code ≡ r.code) × (q.span ≡ r.span)
+
 -- in a source that is kinded, a written constructor whose names are in scope has the kind that its place wants
 abbrev pub EachHasItsKind : Type 0
 EachHasItsKind = (s : State) (before behind : List Act) (c : Con) (k : Kind) → AreKinded s (before ++ written c k ∷ behind) →

@@ -21,7 +21,7 @@ mod words;
 pub use answer::{has_kind, kind_of};
 pub use event::Event;
 pub use kinded::check_kinds;
-pub use kinded_laws::{each_has_its_kind, faulty_is_not_kinded};
+pub use kinded_laws::{each_has_its_kind, faulty_is_not_kinded, one_fault_of_kinds};
 pub use kinds::kind_text;
 pub use laws::{kinded_is_known, one_kind};
 pub use state::{Frame, State, Value};

@@ -1,5 +1,6 @@
 //! A file cut into its tokens.
-ghost use Rattle.std.specs.Prelude.{◌≡◌, ◌≤◌, ◌<◌, ◌+◌, ◌^◌, ℕ, List, [], ◌∷◌, ◌++◌, length, IfOk, OnOk};
+ghost use Rattle.std.specs.Prelude.{◌≡◌, ◌≤◌, ◌<◌, ◌+◌, ◌^◌, ℕ, List, [], ◌∷◌, ◌++◌, length, IfOk, IsTrue, OnOk};
+ghost use Rattle.ur_base.specs.Codes.{is_refusal_code};
 ghost use Rattle.ur_base.specs.Stopping.{IfRefused, Says};
 ghost use Rattle.ur_lex.specs.Lexing.{Lexes, lexeme, IsTokens, AreSlices, ExplainsNoTokens};
 ghost use Rattle.ur_lex.specs.Modes.{turn, turned, innermost};
@@ -60,7 +61,8 @@ impl Lexer {
 }
 
 fn refused(alloc: Global, code: u8, file: u32, at: usize) -> Refusal
-    requires { at < 2 ^ 32 }
+    requires near { at < 2 ^ 32 }
+    requires named { IsTrue (is_refusal_code code) }
     ensures { Says result code [] [] }
 {
     let place = at as u32;

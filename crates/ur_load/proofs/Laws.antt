@@ -25,13 +25,13 @@ use Rattle.ur_load.specs.declared.source.Sources.{Sources}
 
 -- ---- one project
 
-one_file : (files : Files) (file xs ys : List ℕ) → files file ≡ Some xs → files file ≡ Some ys → xs ≡ ys
+pub one_file : (files : Files) (file xs ys : List ℕ) → files file ≡ Some xs → files file ≡ Some ys → xs ≡ ys
 one_file files file xs ys e f = let both : Some xs ≡ Some ys = sym e ∙ f in cc
 
-not_there : (files : Files) (file xs : List ℕ) → files file ≡ Some xs → files file ≡ None → ⊥
+pub not_there : (files : Files) (file xs : List ℕ) → files file ≡ Some xs → files file ≡ None → ⊥
 not_there files file xs e f = let both : Some xs ≡ None = sym e ∙ f in cc
 
-one_names : (files : Files) (project : List ℕ) (a b : List (List ℕ)) → NamesModules files project a → NamesModules files project b → a ≡ b
+pub one_names : (files : Files) (project : List ℕ) (a b : List (List ℕ)) → NamesModules files project a → NamesModules files project b → a ≡ b
 one_names files project a b ((bytes, file, is), few) ((bytes', file', is'), few') =
     one_project_of bytes a b is (subst (λ z. IsProject z b) (one_file files (project_file project) bytes' bytes file'.0 file.0) is')
 
@@ -63,7 +63,7 @@ signature_once files project names (Some s) None (number, name, file, has) b = a
 signature_once files project names (Some s) (Some t) (n, m, f, h) (n', m', f', h') = ap Some (same_source s t (n ∙ sym n') (m ∙ sym m') (f ∙ sym f')
     (same_bytes files (signature_file project (main_of names)) s t f f' h h'))
 
-all_once : (files : Files) (project : List ℕ) (a b : Sources) → HasSources files project a → HasSources files project b → a ≡ b
+pub all_once : (files : Files) (project : List ℕ) (a b : Sources) → HasSources files project a → HasSources files project b → a ≡ b
 all_once files project a b h k =
     let names : k.names ≡ h.names = one_names files project k.names h.names k.named h.named in
     let modules : a.modules ≡ b.modules = sources_once files project 1 h.names a.modules b.modules h.modules (subst (λ z. AreSources files project 1 z b.modules) names k.modules) in
@@ -72,7 +72,7 @@ all_once files project a b h k =
 
 -- ---- one tree each
 
-one_tokens : (s : Source) (a b : List Lexeme) → IsTokens s.number s.bytes a → IsTokens s.number s.bytes b → a ≡ b
+pub one_tokens : (s : Source) (a b : List Lexeme) → IsTokens s.number s.bytes a → IsTokens s.number s.bytes b → a ≡ b
 one_tokens s a b x y = one_list x.1 y.1
 
 tree_once : (s : Source) (t u : Tree) → HasTree s t → HasTree s u → t ≡ u
@@ -117,13 +117,14 @@ one_project files project l m a b =
 
 -- ---- no refusal of what is loaded
 
-there_lacks : (files : Files) (file : List ℕ) (r : Refusal) → IsThere files file → Lacks files file r → ⊥
+pub there_lacks : (files : Files) (file : List ℕ) (r : Refusal) → IsThere files file → Lacks files file r → ⊥
 there_lacks files file r (bytes, has) (Lacks.missing none says) = not_there files file bytes has.0 none
 there_lacks files file r (bytes, has) (Lacks.long ((other, is, long), says)) =
     let same : length bytes ≡ length other = ap length (one_file files file bytes other has.0 is) in
     let within : length bytes ≤ file_limit = has.1 in omega (arith, same, within, long)
 
-named_refused : (files : Files) (project : List ℕ) (names : List (List ℕ)) (bytes : List ℕ) (r : Refusal) → NamesModules files project names → HasFile files (project_file project) bytes
+pub named_refused : (files : Files) (project : List ℕ) (names : List (List ℕ)) (bytes : List ℕ) (r : Refusal) → NamesModules files project names
+    → HasFile files (project_file project) bytes
     → RefusesProject (project_file project) bytes r → ⊥
 named_refused files project names bytes r ((bytes', file, is), few) has refuses =
     of (subst (λ z. IsProject z names) (one_file files (project_file project) bytes' bytes file.0 has.0) is) refuses where
@@ -133,14 +134,15 @@ named_refused files project names bytes r ((bytes', file, is), few) has refuses 
       of p (RefusesProject.too_many modules q many says) =
           let same : length names ≡ length modules = ap length (one_project_of bytes names modules p q) in omega (arith, same, few, many)
 
-there_in : (files : Files) (project : List ℕ) (k : ℕ) (before behind : List (List ℕ)) (name : List ℕ) (ss : List Source) → AreSources files project k (before ++ name ∷ behind) ss
+pub there_in : (files : Files) (project : List ℕ) (k : ℕ) (before behind : List (List ℕ)) (name : List ℕ) (ss : List Source)
+    → AreSources files project k (before ++ name ∷ behind) ss
     → IsThere files (module_file project name)
 there_in files project k [] behind name [] h = absurd h
 there_in files project k [] behind name (s ∷ ss) (h, rest) = (s.bytes, subst (λ z. HasFile files z s.bytes) h.file_is h.has)
 there_in files project k (n ∷ before) behind name [] h = absurd h
 there_in files project k (n ∷ before) behind name (s ∷ ss) (h, rest) = there_in files project (suc k) before behind name ss rest
 
-signature_fits : (files : Files) (project : List ℕ) (names : List (List ℕ)) (x : Option Source) (r : Refusal) → HasSignature files project names x
+pub signature_fits : (files : Files) (project : List ℕ) (names : List (List ℕ)) (x : Option Source) (r : Refusal) → HasSignature files project names x
     → IsTooLong files (signature_file project (main_of names)) r → ⊥
 signature_fits files project names None r h ((bytes, is, long), says) = not_there files (signature_file project (main_of names)) bytes is h
 signature_fits files project names (Some s) r (number, name, file, has) ((bytes, is, long), says) =
@@ -153,14 +155,14 @@ whole_refused p tokens tree r is (RefusesWhole.syntax says none) = none max_nest
 whole_refused p tokens tree r is (RefusesWhole.nested taken rest says none cut opened) = none tree is
 
 -- the tokens of a source being spelled, it is not refused
-source_refused : (p : DeclPart) (s : Source) (tokens : List Lexeme) (tree : AnyTree (of_decl p)) (r : Refusal) → IsTokens s.number s.bytes tokens
+pub source_refused : (p : DeclPart) (s : Source) (tokens : List Lexeme) (tree : AnyTree (of_decl p)) (r : Refusal) → IsTokens s.number s.bytes tokens
     → Spells language max_nesting (part (of_decl p) tree ∷ []) tokens → RefusesSource p s r → ⊥
 source_refused p s tokens tree r cut is (RefusesSource.no_tokens (RefusesTokens.not_text none number says)) = none cut.0
 source_refused p s tokens tree r cut is (RefusesSource.no_tokens (RefusesTokens.no_token text none says)) = none tokens cut
 source_refused p s tokens tree r cut is (RefusesSource.no_tree others cut' refuses) =
     whole_refused p others tree r (subst (λ z. Spells language max_nesting (part (of_decl p) tree ∷ []) z) (one_tokens s tokens others cut cut') is) refuses
 
-tree_in : (before behind : List Source) (s : Source) (trees : List Tree) → HaveTrees (before ++ s ∷ behind) trees → (tree : Tree) × HasTree s tree
+pub tree_in : (before behind : List Source) (s : Source) (trees : List Tree) → HaveTrees (before ++ s ∷ behind) trees → (tree : Tree) × HasTree s tree
 tree_in [] behind s [] h = absurd h
 tree_in [] behind s (tree ∷ trees) (h, rest) = (tree, h)
 tree_in (b ∷ before) behind s [] h = absurd h

@@ -1,6 +1,7 @@
 pub mod Folders
 pub mod Fetched
 pub mod Laws
+pub mod OneRefusal
 pub mod Found
 pub mod Made
 pub mod Numbers

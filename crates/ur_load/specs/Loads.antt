@@ -1,5 +1,5 @@
 -- Words on what loading a program answers.
-use Rattle.std.specs.Prelude.{◌≡◌, ℕ, ◌≤◌, List, [], ◌∷◌, ◌++◌, length, Option, Some, None, ⊤, Result, Err}
+use Rattle.std.specs.Prelude.{◌≡◌, ◌⊎◌, ℕ, ◌≤◌, List, [], ◌∷◌, ◌++◌, length, Option, Some, None, ⊤, Result, Err, Contains}
 use Rattle.ur_base.specs.declared.refusal.Refusal.{Refusal}
 use Rattle.ur_base.specs.declared.refusal.Stop.{Stop}
 use Rattle.ur_base.specs.declared.refusal.Stop.TheVariants as stop
@@ -11,7 +11,7 @@ use Rattle.ur_load.specs.Names.{module_file}
 use Rattle.ur_syntax.specs.declared.decl.Module.{Module}
 use Rattle.ur_parse_rules.specs.DeclParts.{whole, signature}
 use Rattle.ur_load.specs.Sources.{SaysOfFile, HasFile, Lacks, AreThere, HaveTrees, file_limit}
-use Rattle.ur_load.specs.Refuses.{RefusesSource}
+use Rattle.ur_load.specs.Refuses.{RefusesSource, RefusesFiles}
 use Rattle.ur_load.specs.declared.load_end.LoadEnd.{LoadEnd}
 use Rattle.ur_load.specs.declared.load_end.LoadEnd.TheVariants.{Refused, Shelf, Memory}
 use Rattle.ur_load.specs.declared.source.Source.{Source}
@@ -46,6 +46,14 @@ IsStopIn file s _ = ⊥
 -- the two refusals have the same code and texts
 abbrev pub SaysTheSame : Refusal → Refusal → Type 0
 SaysTheSame r q = Says r q.code q.left q.right
+
+-- the refusals are of one file and have the same code and texts, or each of them is E05 or E06
+abbrev pub IsOneRefusal : List ℕ → List ℕ → Refusal → Refusal → Type 0
+IsOneRefusal f g q r = (f ≡ g) × (SaysTheSame q r ⊎ (Contains (5 ∷ 6 ∷ []) q.code × Contains (5 ∷ 6 ∷ []) r.code))
+
+-- files have one refusal
+abbrev pub OneRefusal : Type 0
+OneRefusal = (files : Files) (project f g : List ℕ) (q r : Refusal) → RefusesFiles files project f q → RefusesFiles files project g r → IsOneRefusal f g q r
 
 -- the second refusal has the code and the texts of the first, and its place, where that is one in the source
 pub record TellsOf (source : Source) (r q : Refusal) : Type 0 where

@@ -24,4 +24,4 @@ pub use project_file::{
     MAX_MODULES, one_bad_line, one_name_is_a_project, one_project_file, read_project,
 };
 pub use source::{Source, Sources};
-pub use whole::{numbers_lead_to_files, one_project, refused_is_not_loaded};
+pub use whole::{numbers_lead_to_files, one_project, one_refusal, refused_is_not_loaded};

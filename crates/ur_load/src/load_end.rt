@@ -1,5 +1,6 @@
 //! Why a project is not loaded.
-ghost use Rattle.std.specs.Prelude.{◌≡◌};
+ghost use Rattle.std.specs.Prelude.{◌≡◌, IsTrue};
+ghost use Rattle.ur_base.specs.Codes.{is_refusal_code};
 ghost use Rattle.ur_load.specs.Loads.{IsStopIn, SaysIn};
 
 use std::alloc::Global;
@@ -59,6 +60,7 @@ pub fn refused_in(
     left: &[u8],
     right: &[u8],
 ) -> LoadEnd
+    requires { IsTrue (is_refusal_code code) }
     ensures { SaysIn file.now code left.now right.now result }
 {
     match (

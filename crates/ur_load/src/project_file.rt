@@ -1,5 +1,6 @@
 //! Project files.
-ghost use Rattle.std.specs.Prelude.{◌≡◌, ◌≤◌, ◌⊎◌, ◌∷◌, ◌++◌, [], true, List, ℕ, IfOk, IsUtf8, length};
+ghost use Rattle.std.specs.Prelude.{◌≡◌, ◌≤◌, ◌⊎◌, ◌∷◌, ◌++◌, [], true, List, ℕ, IfOk, IsTrue, IsUtf8, length};
+ghost use Rattle.ur_base.specs.Codes.{is_refusal_code};
 ghost use Rattle.ur_base.specs.Stopping.{IfRefused};
 ghost use Rattle.ur_load.specs.Words.{is_module_name};
 ghost use Rattle.ur_load.specs.Lines.{project_lines};
@@ -18,6 +19,7 @@ pub const MAX_MODULES: usize = 64;
 
 /// The refusal that speaks of no line of the project file, with its two texts.
 fn refused(alloc: Global, code: u8, left: &[u8], right: &[u8]) -> Stop
+    requires { IsTrue (is_refusal_code code) }
     ensures { SaysWhole code left.now right.now result }
 {
     match (

@@ -2,6 +2,7 @@
 ghost use Rattle.std.specs.Prelude.{◌≡◌, ◌⊎◌, ℕ, List, Option, Some, Contains};
 ghost use Rattle.ur_base.specs.declared.refusal.Refusal.{Refusal};
 ghost use Rattle.ur_load.specs.Loaded.{IsLoaded, file_at};
+ghost use Rattle.ur_load.specs.Loads.{OneRefusal};
 ghost use Rattle.ur_load.specs.Refuses.{RefusesFiles};
 ghost use Rattle.ur_load.specs.declared.loaded.Loaded.{Loaded};
 ghost use Rattle.ur_load.specs.declared.source.Source.{Source};
@@ -15,6 +16,12 @@ pub fn one_project()
 pub fn refused_is_not_loaded()
     ensures { (files : List ℕ → Option (List ℕ)) (project file : List ℕ) (r : Refusal) (l : Loaded) → RefusesFiles files project file r
         → IsLoaded files project l → ⊥ }
+{}
+
+/// Files have one refusal: its file, its code and its texts. Of E05 and E06 both may be so, where the tokens of a file nest too
+/// deep and no nesting would do.
+pub fn one_refusal()
+    ensures { OneRefusal }
 {}
 
 /// The number of a source, which places in it carry, leads to its file.

@@ -45,6 +45,11 @@ use Rattle.ur_machine.specs.declared.stop.TurnStop.TheVariants as stop
 use Rattle.ur_conditions.specs.declared.patterns.Patterns.{Patterns}
 use Rattle.ur_cache.specs.Entries.{Cached}
 use Rattle.ur_machine.specs.Answers.{sites_of}
+use Rattle.ur_values.specs.declared.atom.Atom.{Atom}
+use Rattle.ur_values.specs.Atom.{atom_values}
+use Rattle.ur_machine.specs.declared.reached.Reached.{Reached}
+use Rattle.ur_machine.specs.declared.reached.Reached.TheVariants as reached
+use Rattle.ur_machine.specs.Reached.{HasReached}
 use Rattle.ur_machine.specs.StoreCalls.{asked, Answers, OneStep, Takes, DoesStoreCall, StoreCall}
 use Rattle.ur_machine.specs.Reading.{IsKeyOf, FindsRows}
 use Rattle.ur_machine.specs.Ready.{AreReady}
@@ -157,26 +162,36 @@ module _ (code : Code) (how : AnswerForm) (site : ℕ) (key : List Value) (units
       (after_charge (nat_le (1 + length rows) units) (answered how rows (record s { units = units - (1 + length rows) })) [] x (record s { units = units' }) (a.1 s)))
 
   module _ (patterns : Patterns) (c c' : Cached) (reads reads' : ℕ) (saved saved' current current' : Option Tables) (kept kept' : KeptSchema) (under_way' : Bool) (same : kept ≡ Keeps code.schema) where
-    abbrev Its : (units' : ℕ) → Result Value TurnStop → Type 0
-    Its units' result = StoreCall (OneStep (sites_of code patterns) c c' reads reads') code (op.Ask how site) key units units' saved saved' current current' kept' under_way' result
+    abbrev Its : Reached → (units' : ℕ) → Result Value TurnStop → Type 0
+    Its reached units' result = StoreCall (OneStep code (sites_of code patterns) c c' reads reads' reached) code (op.Ask how site) key units units' saved saved' current current' kept' under_way' result
 
     -- no rows were had
-    pub ask_stops : (e : TurnStop) → FindsRows code patterns site key saved saved' current current' kept kept' under_way' c c' reads reads' (Err e) → Its units (Err e)
-    ask_stops e finds = store_call_stops (OneStep (sites_of code patterns) c c' reads reads') code (op.Ask how site) key units units saved saved' current current' kept kept' under_way' same (List Value) e finds.ends
+    pub ask_stops : (reached : Reached) (e : TurnStop) → FindsRows code patterns site key saved saved' current current' kept kept' under_way' c c' reads reads' (Err e) → Its reached units (Err e)
+    ask_stops reached e finds = store_call_stops (OneStep code (sites_of code patterns) c c' reads reads' reached) code (op.Ask how site) key units units saved saved' current current' kept kept' under_way' same (List Value) e finds.ends
 
     -- what was answered is the store call
-    pub ask_store_call : (rows : List Value) → FindsRows code patterns site key saved saved' current current' kept kept' under_way' c c' reads reads' (Ok rows)
-        → WhereTold current (AreReady code.schema units) → (units' : ℕ) (result : Result Value TurnStop) → Answers how rows units units' result → Its units' result
-    ask_store_call rows finds ready units' result answers = subst (λ o. StoreCall Did code (op.Ask how site) key units units' saved saved' current o kept' under_way' result) (sym finds.stays) (go result answers)
+    pub ask_store_call : (atoms : Option (List Atom)) → IfSome atoms (λ a. atom_values a ≡ key) → IsKeyOf code site key → (rows : List Value) → FindsRows code patterns site key saved saved' current current' kept kept' under_way' c c' reads reads' (Ok rows)
+        → WhereTold current (AreReady code.schema units) → (units' : ℕ) (result : Result Value TurnStop) → Answers how rows units units' result → Its (reached.Query site atoms) units' result
+    ask_store_call atoms same_key is rows finds ready units' result answers = subst (λ o. StoreCall Did code (op.Ask how site) key units units' saved saved' current o kept' under_way' result) (sym finds.stays) (go result answers)
       where
         Did : List Event → Type 0
-        Did = OneStep (sites_of code patterns) c c' reads reads'
+        Did = OneStep code (sites_of code patterns) c c' reads reads' (reached.Query site atoms)
+
+        has_query : (atoms : Option (List Atom)) → IfSome atoms (λ a. atom_values a ≡ key) → HasReached code (reached.Query site atoms) (Ask site key rows ∷ [])
+        has_query None h = (key, rows, refl)
+        has_query (Some a) h = (
+          record { site = site; key = key; rows = rows },
+          record { query = is.query; is_site = is.is_site; key = is.fits; rows = All-from_recursion (λ row. IsOf code row (query_type is.query).1) rows (finds.typed is.query is.is_site) },
+          refl,
+          sym h,
+          refl,
+        )
 
         within : IsWithin saved saved' (Keeps code.schema) kept' under_way'
         within = record { same_saved = finds.ends.same_saved; same_kept = finds.ends.same_kept ∙ same; goes_on = finds.ends.goes_on }
 
         its_event : (t : Tables) → rows ≡ found (store_of t) → Did (Ask site key (found (store_of t)) ∷ [])
-        its_event t e = subst (λ rs. Did (Ask site key rs ∷ [])) e (asked site key rows, finds.steps)
+        its_event t e = subst (λ rs. Did (Ask site key rs ∷ [])) e (asked site key rows, finds.steps, has_query atoms same_key)
 
         does_so : (r : Result Value TurnStop) → Answers how rows units units' r → WhereTold current (λ t. DoesStoreCall Did code (op.Ask how site) key units (store_of t) current units' r)
         does_so r a = where_told current _ _ finds.rows (λ t e f. asks Did t current units' r (its_event t f) e (subst (λ rs. Answers how rs units units' r) f a))
@@ -185,12 +200,12 @@ module _ (code : Code) (how : AnswerForm) (site : ℕ) (key : List Value) (units
         below h = omega arith
 
         go : (r : Result Value TurnStop) → Answers how rows units units' r → StoreCall Did code (op.Ask how site) key units units' saved saved' current current kept' under_way' r
-        go (Ok x) a = record { does = does_so (Ok x) a; answer = answer_has_type rows finds.typed units' x a; fewer = a.0; ready = where_told current _ _ ready (λ t e h. fewer_ready code.schema units units' t (below a.0) h); raised = raised_none (units - units') current; leaves = within; stays = tt }
-        go (Err (stop.Failed body)) a = record { does = does_so (Err (stop.Failed body)) a; answer = tt; fewer = tt; ready = tt; raised = tt; leaves = within; stays = refl }
-        go (Err stop.Spent) a = record { does = does_so (Err stop.Spent) a; answer = tt; fewer = tt; ready = tt; raised = tt; leaves = within; stays = refl }
+        go (Ok x) a = record { does = does_so (Ok x) a; answer = answer_has_type rows finds.typed units' x a; fewer = a.0; ready = where_told current _ _ ready (λ t e h. fewer_ready code.schema units units' t (below a.0) h); raised = raised_none (units - units') current; leaves = within; stays = tt; untold = λ n. n }
+        go (Err (stop.Failed body)) a = record { does = does_so (Err (stop.Failed body)) a; answer = tt; fewer = tt; ready = tt; raised = tt; leaves = within; stays = refl; untold = tt }
+        go (Err stop.Spent) a = record { does = does_so (Err stop.Spent) a; answer = tt; fewer = tt; ready = tt; raised = tt; leaves = within; stays = refl; untold = tt }
         go (Err stop.Keeper) a = absurd a
         go (Err stop.Undone) a = absurd a
-        go (Err stop.Memory) a = record { does = does_so (Err stop.Memory) a; answer = tt; fewer = tt; ready = tt; raised = tt; leaves = within; stays = tt }
+        go (Err stop.Memory) a = record { does = does_so (Err stop.Memory) a; answer = tt; fewer = tt; ready = tt; raised = tt; leaves = within; stays = tt; untold = tt }
 
 not_there : {A : Type 0} (o : Option A) (x : A) → o ≡ None → o ≡ Some x → ⊥
 not_there o x e f = differ (sym e ∙ f)

@@ -71,6 +71,7 @@ module _ (Did : List Event → Type 0) (code : Code) (o : Op) (args : List Value
     raised = tt;
     leaves = record { same_saved = a; same_kept = c ∙ same; goes_on = d };
     stays = b;
+    untold = tt;
   })
 
   -- the keeper failed, or memory was wanting
@@ -78,9 +79,9 @@ module _ (Did : List Event → Type 0) (code : Code) (o : Op) (args : List Value
       → StoreCall Did code o args units units' saved saved' current current' kept' under_way' (Err e)
   store_call_stops A (stop.Failed body) l = absurd l
   store_call_stops A stop.Spent l = absurd l
-  store_call_stops A stop.Keeper l = record { does = told_all current _ (λ t f. tt); answer = tt; fewer = tt; ready = tt; raised = tt; leaves = record { same_saved = l.same_saved; same_kept = l.same_kept ∙ same; at_rest = l.at_rest; ended = l.ended }; stays = tt }
-  store_call_stops A stop.Undone l = record { does = told_all current _ (λ t f. tt); answer = tt; fewer = tt; ready = tt; raised = tt; leaves = record { same_saved = l.same_saved; same_kept = l.same_kept ∙ same; at_rest = l.at_rest; ended = l.ended }; stays = tt }
-  store_call_stops A stop.Memory l = record { does = told_all current _ (λ t f. tt); answer = tt; fewer = tt; ready = tt; raised = tt; leaves = record { same_saved = l.same_saved; same_kept = l.same_kept ∙ same; goes_on = l.goes_on }; stays = tt }
+  store_call_stops A stop.Keeper l = record { does = told_all current _ (λ t f. tt); answer = tt; fewer = tt; ready = tt; raised = tt; leaves = record { same_saved = l.same_saved; same_kept = l.same_kept ∙ same; at_rest = l.at_rest; ended = l.ended }; stays = tt; untold = tt }
+  store_call_stops A stop.Undone l = record { does = told_all current _ (λ t f. tt); answer = tt; fewer = tt; ready = tt; raised = tt; leaves = record { same_saved = l.same_saved; same_kept = l.same_kept ∙ same; at_rest = l.at_rest; ended = l.ended }; stays = tt; untold = tt }
+  store_call_stops A stop.Memory l = record { does = told_all current _ (λ t f. tt); answer = tt; fewer = tt; ready = tt; raised = tt; leaves = record { same_saved = l.same_saved; same_kept = l.same_kept ∙ same; goes_on = l.goes_on }; stays = tt; untold = tt }
 
 -- what holds of the error holds behind a `?`
 pub store_call_exit : {Did : List Event → Type 0} {code : Code} {o : Op} {args : List Value} {units units' : ℕ} {saved saved' current current' : Option Tables} {kept' : KeptSchema} {under_way' : Bool} (r : Result Value TurnStop) (e : TurnStop)
@@ -168,6 +169,7 @@ module _ (Did : List Event → Type 0) (code : Code) (update : ℕ) (u : Change)
     raised = by_units result made.raised;
     leaves = subst (λ k. Leaves result saved saved' current' k kept' under_way') same made.leaves;
     stays = made.stays;
+    untold = made.untold;
   }
     where
       if_ok : (r : Result Value TurnStop) → IfOk r (λ x. x ≡ unit_value) → IfOk r (IsAnswerTo code (op.Write update))
@@ -265,6 +267,7 @@ module _ (Did : List Event → Type 0) (code : Code) (q : ℕ) (below : q < leng
         raised = λ m h. raise current ready m h;
         leaves = record { same_saved = goes.same_saved; same_kept = goes.same_kept ∙ same; goes_on = goes.goes_on };
         stays = tt;
+        untold = λ n. ap (option_map (drawn q)) n;
       })))
     where
       drew_so : (o : Option Tables) → WhereTold o (AreReady code.schema units) → WhereTold o (λ t. n ≡ sequence_at t q)

@@ -6,7 +6,7 @@ use Rattle.ur_values.specs.declared.types.ValueType.TheVariants as ty
 use Rattle.ur_sql.specs.Typing.{QueryFits, ChangeFits}
 use Rattle.ur_terms.specs.declared.term.Term.TheBlock as block
 use Rattle.ur_terms.specs.Types.{FitsFunction, alike, xml_page}
-use Rattle.ur_code.specs.Fits.{Fits, signature}
+use Rattle.ur_code.specs.Fits.{Fits, IsBasicCookie, signature}
 use Rattle.ur_code.specs.RouteTypes.{IsRequestOf}
 use Rattle.ur_machine.specs.Sample.{main, route, small, call}
 
@@ -28,6 +28,7 @@ small_fits = record {
   changes = All-from_recursion (ChangeFits small.schema) [] tt;
   routes = (record { function = main; is_function = refl; params = refl; page = refl; no_form = λ e. refl }, tt);
   tables = All-from_recursion _ [] tt;
+  cookies = All-from_recursion IsBasicCookie [] tt;
 }
 
 pub is_request : IsRequestOf small.handlers call

@@ -3,7 +3,7 @@ use Rattle.std.specs.Prelude.{◌↔◌, IsTrue}
 use Rattle.std.proofs.Common.{Bool, true, false, ◌≡◌, ◌≢◌, List, [], ◌∷◌, ◌++◌, codes, Result, Ok, Err, refl, ap, ◌∙◌}
 use Rattle.ur_values.specs.declared.value.Value.{Value}
 use Rattle.ur_values.specs.declared.value.Value.TheVariants as v
-use Rattle.ur_values.specs.Atom.{IsAtomic}
+use Rattle.ur_values.specs.Atom.{IsBasic}
 use Rattle.ur_tags.specs.Segments.{segment}
 use Rattle.ur_terms.specs.declared.term.AnswerForm.TheVariants as form
 use Rattle.ur_terms.specs.State.{State, Outcome, error_text}
@@ -47,7 +47,7 @@ only_row rows first row e f = e ∙ ap (λ xs. xs ++ row ∷ []) f
 -- ---- cookies
 
 -- what is no int, string or bool has no segment
-pub no_segment : (x : Value) → (IsAtomic x → ⊥) → [] ≡ segment x
+pub no_segment : (x : Value) → (IsBasic x → ⊥) → [] ≡ segment x
 no_segment (v.Int z) n = absurd (n tt)
 no_segment (v.Str t) n = absurd (n tt)
 no_segment (v.Bool b) n = absurd (n tt)

@@ -20,7 +20,7 @@ use Rattle.ur_sql.specs.declared.query.Item.{Item}
 use Rattle.ur_sql.specs.Answer.{answer_over, site_answer}
 use Rattle.ur_conditions.specs.declared.patterns.Patterns.{Patterns}
 use Rattle.ur_conditions.specs.Masks.{PatternReads, update_masks}
-use Rattle.ur_conditions.proofs.Values.{fits_atomic}
+use Rattle.ur_values.proofs.Fitting.{fits_atomic}
 use Rattle.ur_cache.specs.Entries.{Entry, Cached, is_masked, entry_size, most_size, hit, to_front, looked_up, masked, put, kept}
 use Rattle.ur_cache.specs.Cached.{Sites}
 use Rattle.ur_cacheindex.specs.Matching.{KeyMask}
@@ -39,6 +39,9 @@ use Rattle.ur_machine.specs.Caching.{LeavesAnswers, HoldsAnswers}
 use Rattle.ur_machine.specs.declared.turn.Turn.{Turn}
 use Rattle.ur_machine.specs.Changing.{Makes, Made}
 use Rattle.ur_machine.specs.StoreCalls.{OneStep, drew, wrote}
+use Rattle.ur_machine.specs.declared.reached.Reached.{Reached}
+use Rattle.ur_machine.specs.declared.reached.Reached.TheVariants as reached
+use Rattle.ur_machine.specs.Reached.{HasReached}
 use Rattle.ur_machine.specs.Ready.{AreReady}
 use Rattle.ur_machine.specs.Reading.{IsKeyOf, FindsRows}
 use Rattle.ur_machine.specs.Stops.{EndsCall, Leaves, Stays, WhileUnderWay}
@@ -291,8 +294,11 @@ looked_leaves code saved current c c' site key r is s n moved =
 -- ---- steps
 
 -- nothing was asked or changed
-pub no_step : (sites : Sites) (c c' : Cached) (reads reads' : ℕ) → c' ≡ c → reads' ≡ reads → OneStep sites c c' reads reads' []
-no_step sites c c' reads reads' e f = (drew, (e, f))
+pub no_step : (code : Code) (sites : Sites) (c c' : Cached) (reads reads' : ℕ) (reached : Reached) → c' ≡ c → reads' ≡ reads → HasReached code reached [] → OneStep code sites c c' reads reads' reached []
+no_step code sites c c' reads reads' reached e f h = (drew, (e, f), h)
+
+pub none_reached : (code : Code) (r : Reached) → r ≡ reached.Nothing → HasReached code r []
+none_reached code r e = subst (λ z. HasReached code z []) (sym e) refl
 
 pub finds_at_key : (code : Code) (patterns : Patterns) (site : ℕ) (key' key : List Value) (saved saved' current current' : Option Tables) (kept₀ kept' : KeptSchema) (under_way' : Bool) (c c' : Cached) (reads reads' : ℕ)
     (result : Result (List Value) TurnStop) → key' ≡ key → FindsRows code patterns site key' saved saved' current current' kept₀ kept' under_way' c c' reads reads' result
@@ -314,8 +320,8 @@ module _ (code : Code) (patterns : Patterns) (update : ℕ) (args : List Value) 
   abbrev pub its_masks : List KeyMask
   its_masks = update_masks args (slice_index_or patterns.updates update [])
 
-  pub write_step : (c c' : Cached) (reads reads' : ℕ) (r : Result Value TurnStop) → c' ≡ masked c its_masks → reads' ≡ next_count reads → WhileUnderWay r (OneStep (sites_of code patterns) c c' reads reads' (Write update args ∷ []))
-  write_step c c' reads reads' r e f = while_all _ r (wrote update args, (e, f))
+  pub write_step : (c c' : Cached) (reads reads' : ℕ) (r : Result Value TurnStop) → c' ≡ masked c its_masks → reads' ≡ next_count reads → WhileUnderWay r (OneStep code (sites_of code patterns) c c' reads reads' (reached.Change update) (Write update args ∷ []))
+  write_step c c' reads reads' r e f = while_all _ r (wrote update args, (e, f), (args, refl))
 
   -- the masks of the update may be asked for
   module _ (are : ArePatternsOf code patterns) (u : Change) (at : slice_get code.changes update ≡ Some u) (fits : FitKinds args u.params) where

@@ -165,16 +165,17 @@ module _ (Did : List Event → Type 0) (code : Code) (m m' : Machine) (saved cur
     ready = tt;
     charged = tt;
     raised = tt;
+    untold = tt;
   })
 
   pub ran_failed : (body : Value) → EndsAs code m m' (pause.Failed body) → Still (Err (stop.Failed body))
-  ran_failed body h = record { kind = tt; on = told_all current _ (λ before e. failed_ends Did code m m' none body h (store_of before)); leaves = still; stays = refl; machine = tt; ready = tt; charged = tt; raised = tt }
+  ran_failed body h = record { kind = tt; on = told_all current _ (λ before e. failed_ends Did code m m' none body h (store_of before)); leaves = still; stays = refl; machine = tt; ready = tt; charged = tt; raised = tt; untold = tt }
 
   pub ran_spent : EndsAs code m m' pause.Spent → Still (Err stop.Spent)
-  ran_spent h = record { kind = tt; on = told_all current _ (λ before e. spent_ends Did code m m' none h (store_of before)); leaves = still; stays = refl; machine = tt; ready = tt; charged = tt; raised = tt }
+  ran_spent h = record { kind = tt; on = told_all current _ (λ before e. spent_ends Did code m m' none h (store_of before)); leaves = still; stays = refl; machine = tt; ready = tt; charged = tt; raised = tt; untold = tt }
 
   pub ran_memory : Still (Err stop.Memory)
-  ran_memory = record { kind = tt; on = told_all current _ (λ before e. tt); leaves = still; stays = tt; machine = tt; ready = tt; charged = tt; raised = tt }
+  ran_memory = record { kind = tt; on = told_all current _ (λ before e. tt); leaves = still; stays = tt; machine = tt; ready = tt; charged = tt; raised = tt; untold = tt }
 
 module _ (Did : List Event → Type 0) (code : Code) (m m' : Machine) (r : Bor Op) (args : List Value) (on : IsLocal r.now → ⊥) (h : EndsAs code m m' (pause.Store r args)) (units' : ℕ) (saved saved' current current' : Option Tables) (kept' : KeptSchema) (under_way' : Bool) where
   -- the operation on tables stopped
@@ -188,6 +189,7 @@ module _ (Did : List Event → Type 0) (code : Code) (m m' : Machine) (r : Bor O
     ready = tt;
     charged = tt;
     raised = tt;
+    untold = tt;
   }
     where
       keeps : (e : TurnStop) → Leaves {A = Value} (Err e) saved saved' current' (Keeps code.schema) kept' under_way' → Leaves {A = Turn} (Err e) saved saved' current' (Keeps code.schema) kept' under_way'
@@ -216,6 +218,7 @@ module _ (Did : List Event → Type 0) (code : Code) (m m' : Machine) (r : Bor O
     ready = subst (λ z. WhereTold current' (AreReady code.schema z.frames.units)) (sym is) d.ready;
     charged = subst (λ z. z.frames.units < m.frames.units) (sym is) (let fewer : units' < m'.frames.units = d.fewer in omega (arith, fewer, less));
     raised = subst (λ z. RaisedBy (m.frames.units - z.frames.units) current current') (sym is) (raised_more (m'.frames.units - units') (m.frames.units - units') current current' (omega (arith, less)) d.raised);
+    untold = d.untold;
   }
 
 -- ---- the whole turn
@@ -228,8 +231,8 @@ module _ (Did : List Event → Type 0) (code : Code) (m m' : Machine) (saved sav
   Run = Ran Did code m m' saved saved' current current' kept' under_way'
 
   pub turned_ok : (t : Turn) → Run (Ok t) → Its t
-  turned_ok turn.More r = record { on = r.on; undone = r.leaves.goes_on; same_saved = r.leaves.same_saved; same_kept = r.leaves.same_kept; stays = tt; machine = r.machine; ready = r.ready; charged = r.charged; raised = r.raised }
-  turned_ok (turn.Page bytes cookies) r = record { on = r.on; undone = r.leaves.goes_on; same_saved = r.leaves.same_saved; same_kept = r.leaves.same_kept; stays = r.stays; machine = tt; ready = tt; charged = tt; raised = tt }
+  turned_ok turn.More r = record { on = r.on; undone = r.leaves.goes_on; same_saved = r.leaves.same_saved; same_kept = r.leaves.same_kept; stays = tt; machine = r.machine; ready = r.ready; charged = r.charged; raised = r.raised; untold = r.untold }
+  turned_ok (turn.Page bytes cookies) r = record { on = r.on; undone = r.leaves.goes_on; same_saved = r.leaves.same_saved; same_kept = r.leaves.same_kept; stays = r.stays; machine = tt; ready = tt; charged = tt; raised = tt; untold = tt }
   turned_ok (turn.Failed bytes) r = absurd r.kind
   turned_ok turn.Keeper r = absurd r.kind
   turned_ok turn.Memory r = absurd r.kind
@@ -245,6 +248,7 @@ module _ (Did : List Event → Type 0) (code : Code) (m m' : Machine) (saved sav
     ready = tt;
     charged = tt;
     raised = tt;
+    untold = tt;
   })
 
   pub turned_spent : (bytes : List ℕ) → bytes ≡ show_text (codes "Error") (codes "budget spent") → Run (Err stop.Spent) → Its (turn.Failed bytes)
@@ -258,13 +262,14 @@ module _ (Did : List Event → Type 0) (code : Code) (m m' : Machine) (saved sav
     ready = tt;
     charged = tt;
     raised = tt;
+    untold = tt;
   })
 
   pub turned_keeper : Run (Err stop.Keeper) → Its turn.Keeper
-  turned_keeper r = record { on = told_all current _ (λ before e. keeper); undone = (r.leaves.ended, r.leaves.at_rest ∙ sym r.leaves.same_saved); same_saved = r.leaves.same_saved; same_kept = r.leaves.same_kept; stays = tt; machine = tt; ready = tt; charged = tt; raised = tt }
+  turned_keeper r = record { on = told_all current _ (λ before e. keeper); undone = (r.leaves.ended, r.leaves.at_rest ∙ sym r.leaves.same_saved); same_saved = r.leaves.same_saved; same_kept = r.leaves.same_kept; stays = tt; machine = tt; ready = tt; charged = tt; raised = tt; untold = tt }
 
   pub turned_undone : Run (Err stop.Undone) → Its turn.Memory
-  turned_undone r = record { on = told_all current _ (λ before e. memory); undone = (r.leaves.ended, r.leaves.at_rest ∙ sym r.leaves.same_saved); same_saved = r.leaves.same_saved; same_kept = r.leaves.same_kept; stays = tt; machine = tt; ready = tt; charged = tt; raised = tt }
+  turned_undone r = record { on = told_all current _ (λ before e. memory); undone = (r.leaves.ended, r.leaves.at_rest ∙ sym r.leaves.same_saved); same_saved = r.leaves.same_saved; same_kept = r.leaves.same_kept; stays = tt; machine = tt; ready = tt; charged = tt; raised = tt; untold = tt }
 
 -- neither a fault of the keeper nor its want of memory
 abbrev pub GoesOnAfter : TurnStop → Type 0
@@ -290,6 +295,7 @@ turned_memory Did Did' code m m' saved saved₁ saved' current current₁ curren
       ready = tt;
       charged = tt;
       raised = tt;
+      untold = tt;
     })
   where
     goes_on_still : (e : TurnStop) → GoesOnAfter e → Leaves {A = Turn} (Err e) saved saved₁ current₁ (Keeps code.schema) kept₁ under_way₁ → IsWithin saved saved₁ (Keeps code.schema) kept₁ under_way₁

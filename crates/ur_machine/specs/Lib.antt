@@ -10,5 +10,6 @@ pub mod Reading
 pub mod TurnsCookies
 pub mod Ready
 pub mod Changing
+pub mod Reached
 pub mod StoreCalls
 pub mod Turning

@@ -1,5 +1,5 @@
 -- What an operation on tables comes to.
-use Rattle.std.specs.Prelude.{◌≡◌, ℕ, ◌<◌, ◌+◌, ◌-◌, List, [], ◌∷◌, ◌++◌, length, Bool, Option, Some, Result, Ok, Err, IfOk, OnOk}
+use Rattle.std.specs.Prelude.{◌≡◌, ℕ, ◌<◌, ◌+◌, ◌-◌, List, [], ◌∷◌, ◌++◌, length, Bool, Option, Some, None, Result, Ok, Err, IfOk, OnOk}
 use Rattle.ur_base.specs.Told.{WhereTold}
 use Rattle.ur_values.specs.declared.value.Value.{Value}
 use Rattle.ur_values.specs.Event.{Event, Ask, Write}
@@ -18,6 +18,8 @@ use Rattle.ur_machine.specs.declared.stop.TurnStop.TheVariants as stop
 use Rattle.ur_cache.specs.Entries.{Cached}
 use Rattle.ur_cache.specs.Cached.{Sites}
 use Rattle.ur_machine.specs.Answers.{Follows}
+use Rattle.ur_machine.specs.Reached.{HasReached}
+use Rattle.ur_machine.specs.declared.reached.Reached.{Reached}
 use Rattle.ur_machine.specs.Ready.{AreReady, RaisedBy}
 use Rattle.ur_machine.specs.Stops.{Leaves, Stays}
 
@@ -27,9 +29,9 @@ pub data OneStoreCall : List Event → Type 0 where
   asked : (site : ℕ) (key found : List Value) → OneStoreCall (Ask site key found ∷ [])
   wrote : (update : ℕ) (args : List Value) → OneStoreCall (Write update args ∷ [])
 
--- one store call, at which the list of entries went through its steps
-abbrev pub OneStep : Sites → Cached → Cached → ℕ → ℕ → List Event → Type 0
-OneStep sites old new reads reads' events = OneStoreCall events × Follows sites old new reads reads' events
+-- one store call, the one that was reached, at which the list of entries went through its steps
+abbrev pub OneStep : Code → Sites → Cached → Cached → ℕ → ℕ → Reached → List Event → Type 0
+OneStep code sites old new reads reads' reached events = OneStoreCall events × Follows sites old new reads reads' events × HasReached code reached events
 
 -- the operation's arguments have its types
 abbrev pub Takes : Code → Op → List Value → Type 0
@@ -69,7 +71,8 @@ DoesStoreCall Did code o args units before after units' (Err stop.Undone) = Unit
 DoesStoreCall Did code o args units before after units' (Err stop.Memory) = Unit {0}
 
 -- An operation on tables over a keeper: where the tables are told it does what it does in the code's meaning; its value has
--- its type, it takes units, and leaves tables that may be read and changed by those that are left.
+-- its type, it takes units, and leaves tables that may be read and changed by those that are left, and that are not told where
+-- they were not told before.
 pub record StoreCall (Did : List Event → Type 0) (code : Code) (o : Op) (args : List Value) (units units' : ℕ) (saved saved' current current' : Option Tables) (kept' : KeptSchema) (under_way' : Bool) (result : Result Value TurnStop) : Type 0 where
   pub does : WhereTold current (λ t. DoesStoreCall Did code o args units (store_of t) current' units' result)
   pub answer : IfOk result (IsAnswerTo code o)
@@ -78,3 +81,4 @@ pub record StoreCall (Did : List Event → Type 0) (code : Code) (o : Op) (args 
   pub raised : OnOk result (RaisedBy (units - units') current current')
   pub leaves : Leaves result saved saved' current' (Keeps code.schema) kept' under_way'
   pub stays : Stays result current current'
+  pub untold : OnOk result (current ≡ None → current' ≡ None)

@@ -144,6 +144,7 @@ pub record Ran (Did : List Event → Type 0) (code : Code) (m m' : Machine) (sav
   pub ready : IfRunMore result (WhereTold current' (AreReady code.schema m'.frames.units))
   pub charged : IfRunMore result (m'.frames.units < m.frames.units)
   pub raised : IfRunMore result (RaisedBy (m.frames.units - m'.frames.units) current current')
+  pub untold : IfRunMore result (current ≡ None → current' ≡ None)
 
 -- the same of the whole turn
 pub record Turned (Did : List Event → Type 0) (code : Code) (m m' : Machine) (saved saved' current current' : Option Tables) (kept' : KeptSchema) (under_way' : Bool) (t : Turn) : Type 0 where
@@ -156,3 +157,4 @@ pub record Turned (Did : List Event → Type 0) (code : Code) (m m' : Machine) (
   pub ready : IfMore t (WhereTold current' (AreReady code.schema m'.frames.units))
   pub charged : IfMore t (m'.frames.units < m.frames.units)
   pub raised : IfMore t (RaisedBy (m.frames.units - m'.frames.units) current current')
+  pub untold : IfMore t (current ≡ None → current' ≡ None)

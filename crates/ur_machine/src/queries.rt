@@ -1,9 +1,9 @@
 //! Queries over a keeper and a cache.
-ghost use Rattle.std.specs.Prelude.{◌≡◌, ◌≤◌, ◌<◌, ◌-◌, true, length, map, All, IfOk, OnOk, MatchResult, None};
+ghost use Rattle.std.specs.Prelude.{◌≡◌, ◌≤◌, ◌<◌, ◌-◌, true, length, map, All, IfOk, IfSome, OnOk, MatchResult, None};
 ghost use Rattle.std.specs.List.{AllZip};
 ghost use Rattle.ur_base.specs.Counts.{HasCause};
 ghost use Rattle.ur_base.specs.Told.{WhereTold};
-ghost use Rattle.ur_values.specs.Atom.{atom_values};
+ghost use Rattle.ur_values.specs.Atom.{IsAtomic, atom_values};
 ghost use Rattle.ur_keeper.specs.Tables.{Keeps, AreRowsOf, table_at};
 ghost use Rattle.ur_keeper.specs.Keeper.{HasTable, OfShape};
 ghost use Rattle.ur_cache.specs.Entries.{hit};
@@ -20,7 +20,7 @@ ghost use Rattle.ur_machine.specs.Stops.{EndsCall};
 
 use crate::stop::TurnStop;
 use crate::turns_calls::scan;
-use crate::{atoms_of, held_rows, keep_rows};
+use crate::{Reached, atoms_of, held_rows, keep_rows};
 use std::alloc::Global;
 use ur_base::{Boxed, List};
 use ur_cache::Cache;
@@ -40,6 +40,7 @@ pub(crate) fn ask<K: Keeper>(
     keeper: &mut K,
     cache: &mut Cache,
     units: &mut u32,
+    reached: &mut Reached,
     how: AnswerForm,
     site: u32,
     key: List<Value>,
@@ -51,13 +52,26 @@ pub(crate) fn ask<K: Keeper>(
     requires ready { WhereTold (K.current keeper.old) (AreReady code.now.schema units.old) }
     requires saved { AreSavedAnswers code.now (K.saved keeper.old) cache.old }
     requires current { AreCurrentAnswers code.now (K.saved keeper.old) (K.current keeper.old) cache.old }
-    ensures store_call { StoreCall (OneStep (sites_of code.now patterns.now) cache.old cache.new (K.reads keeper.old) (K.reads keeper.new)) code.now (op.Ask how site) key units.old units.new (K.saved keeper.old) (K.saved keeper.new) (K.current keeper.old) (K.current keeper.new) (K.kept keeper.new) (K.under_way keeper.new) result }
+    ensures store_call { StoreCall (OneStep code.now (sites_of code.now patterns.now) cache.old cache.new (K.reads keeper.old) (K.reads keeper.new) reached.new) code.now (op.Ask how site) key units.old units.new (K.saved keeper.old) (K.saved keeper.new) (K.current keeper.old) (K.current keeper.new) (K.kept keeper.new) (K.under_way keeper.new) result }
     ensures answers { LeavesAnswers code.now (K.saved keeper.new) (K.current keeper.new) cache.old cache.new result }
     ensures cause { HasCause TurnStop.Keeper (K.faults keeper.old) (K.faults keeper.new) result }
 {
-    let rows = rows_at(alloc, code, patterns, keeper, cache, site, key.as_slice())?;
+    let values = key.as_slice();
+    let rows = rows_at(alloc, code, patterns, keeper, cache, site, values)?;
+    *reached = Reached::Query(site, key_if_any(alloc, values));
     let value = answer_to(alloc, how, rows, units)?;
     Ok(value)
+}
+
+/// The atoms of a key, where there is memory for them.
+fn key_if_any(alloc: Global, key: &[Value]) -> Option<List<Atom>>
+    requires { All IsAtomic key.now }
+    ensures { IfSome result (λ atoms. atom_values atoms ≡ key.now) }
+{
+    match atoms_of(alloc, key) {
+        Ok(atoms) => Some(atoms),
+        Err(_memory) => None,
+    }
 }
 
 /// The rows of a query's answer: those of its entry in the cache, or else those that the tables give.

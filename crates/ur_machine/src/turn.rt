@@ -1,5 +1,5 @@
 //! A turn.
-ghost use Rattle.std.specs.Prelude.{◌≡◌, ◌≤◌, ◌<◌, ◌-◌, true, IfOk};
+ghost use Rattle.std.specs.Prelude.{◌≡◌, ◌≤◌, ◌<◌, ◌-◌, true, None, IfOk};
 ghost use Rattle.ur_base.specs.Counts.{Rose, HasCause};
 ghost use Rattle.ur_base.specs.Told.{WhereTold};
 ghost use Rattle.ur_keeper.specs.Keeper.{IsUndone};
@@ -14,10 +14,10 @@ ghost use Rattle.ur_machine.specs.StoreCalls.{OneStep};
 ghost use Rattle.ur_machine.specs.Ready.{AreReady, RaisedBy};
 ghost use Rattle.ur_machine.specs.Turning.{TurnOn, IsKeeperUndone, IfMore, StaysAtEnd, Ran, Turned};
 
-use crate::Machine;
 use crate::stop::TurnStop;
 use crate::store_calls::store_call;
 use crate::turns_cookies::sent_pairs;
+use crate::{Machine, Reached};
 use std::alloc::Global;
 use ur_base::{Bytes, List, Memory, Text};
 use ur_cache::Cache;
@@ -41,8 +41,8 @@ pub enum Turn {
 }
 
 impl Machine {
-    /// Runs through the next query, change or draw, or to the end, answering queries from the cache where it has their entries.
-    /// Where the tables are told, the tables, the cookies, the units
+    /// Runs through the next query, change or draw, or to the end, answering queries from the cache where it has their entries,
+    /// and tells what it came to. Where the tables are told, the tables, the cookies, the units
     /// and the outcome are those of the code's meaning. Page and Failed leave the tables as they were. Keeper comes only where
     /// the keeper's count rose. After Keeper and Memory no transaction is under way and the current tables are the saved ones;
     /// after the others it goes on.
@@ -53,6 +53,7 @@ impl Machine {
         patterns: &Patterns,
         keeper: &mut K,
         cache: &mut Cache,
+        reached: &mut Reached,
     ) -> Turn
         requires fits { Fits code.now }
         requires patterns { ArePatternsOf code.now patterns.now }
@@ -62,7 +63,7 @@ impl Machine {
         requires ready { WhereTold (K.current keeper.old) (AreReady code.now.schema self.old.frames.units) }
         requires saved { AreSavedAnswers code.now (K.saved keeper.old) cache.old }
         requires current { AreCurrentAnswers code.now (K.saved keeper.old) (K.current keeper.old) cache.old }
-        ensures turn { WhereTold (K.current keeper.old) (λ before. TurnOn (OneStep (sites_of code.now patterns.now) cache.old cache.new (K.reads keeper.old) (K.reads keeper.new)) code.now self.old self.new before (K.current keeper.new) result) }
+        ensures turn { WhereTold (K.current keeper.old) (λ before. TurnOn (OneStep code.now (sites_of code.now patterns.now) cache.old cache.new (K.reads keeper.old) (K.reads keeper.new) reached.new) code.now self.old self.new before (K.current keeper.new) result) }
         ensures undone { IsKeeperUndone result (K.saved keeper.new) (K.current keeper.new) (K.under_way keeper.new) }
         ensures saved { K.saved keeper.new ≡ K.saved keeper.old }
         ensures kept { K.kept keeper.new ≡ K.kept keeper.old }
@@ -71,6 +72,7 @@ impl Machine {
         ensures ready { IfMore result (WhereTold (K.current keeper.new) (AreReady code.now.schema self.new.frames.units)) }
         ensures charged { IfMore result (self.new.frames.units < self.old.frames.units) }
         ensures raised { IfMore result (RaisedBy (self.old.frames.units - self.new.frames.units) (K.current keeper.old) (K.current keeper.new)) }
+        ensures untold { IfMore result (K.current keeper.old ≡ None → K.current keeper.new ≡ None) }
         ensures units { self.new.frames.units ≤ self.old.frames.units }
         ensures saved_answers { AreSavedAnswers code.now (K.saved keeper.new) cache.new }
         ensures current_answers { AreCurrentAnswers code.now (K.saved keeper.new) (K.current keeper.new) cache.new }
@@ -78,7 +80,7 @@ impl Machine {
         ensures later { K.faults keeper.old ≤ K.faults keeper.new }
         ensures cause { result ≡ Turn.Keeper → Rose (K.faults keeper.old) (K.faults keeper.new) }
     {
-        turn_or_stop(alloc, code, patterns, self, keeper, cache)
+        turn_or_stop(alloc, code, patterns, self, keeper, cache, reached)
     }
 }
 
@@ -90,6 +92,7 @@ fn turn_or_stop<K: Keeper>(
     machine: &mut Machine,
     keeper: &mut K,
     cache: &mut Cache,
+    reached: &mut Reached,
 ) -> Turn
     requires fits { Fits code.now }
     requires patterns { ArePatternsOf code.now patterns.now }
@@ -99,13 +102,13 @@ fn turn_or_stop<K: Keeper>(
     requires ready { WhereTold (K.current keeper.old) (AreReady code.now.schema machine.old.frames.units) }
     requires saved { AreSavedAnswers code.now (K.saved keeper.old) cache.old }
     requires current { AreCurrentAnswers code.now (K.saved keeper.old) (K.current keeper.old) cache.old }
-    ensures turned { Turned (OneStep (sites_of code.now patterns.now) cache.old cache.new (K.reads keeper.old) (K.reads keeper.new)) code.now machine.old machine.new (K.saved keeper.old) (K.saved keeper.new) (K.current keeper.old) (K.current keeper.new) (K.kept keeper.new) (K.under_way keeper.new) result }
+    ensures turned { Turned (OneStep code.now (sites_of code.now patterns.now) cache.old cache.new (K.reads keeper.old) (K.reads keeper.new) reached.new) code.now machine.old machine.new (K.saved keeper.old) (K.saved keeper.new) (K.current keeper.old) (K.current keeper.new) (K.kept keeper.new) (K.under_way keeper.new) result }
     ensures units { machine.new.frames.units ≤ machine.old.frames.units }
     ensures answers { HoldsAnswers code.now (K.saved keeper.new) (K.current keeper.new) cache.old cache.new }
     ensures later { K.faults keeper.old ≤ K.faults keeper.new }
     ensures cause { result ≡ Turn.Keeper → Rose (K.faults keeper.old) (K.faults keeper.new) }
 {
-    match to_next_store_call(alloc, code, patterns, machine, keeper, cache) {
+    match to_next_store_call(alloc, code, patterns, machine, keeper, cache, reached) {
         Ok(turn) => turn,
         Err(stop) => match stop {
             TurnStop::Failed(body) => match show_error(alloc, &code.handlers, &body) {
@@ -142,6 +145,7 @@ fn to_next_store_call<K: Keeper>(
     machine: &mut Machine,
     keeper: &mut K,
     cache: &mut Cache,
+    reached: &mut Reached,
 ) -> Result<Turn, TurnStop>
     requires fits { Fits code.now }
     requires patterns { ArePatternsOf code.now patterns.now }
@@ -151,11 +155,12 @@ fn to_next_store_call<K: Keeper>(
     requires ready { WhereTold (K.current keeper.old) (AreReady code.now.schema machine.old.frames.units) }
     requires saved { AreSavedAnswers code.now (K.saved keeper.old) cache.old }
     requires current { AreCurrentAnswers code.now (K.saved keeper.old) (K.current keeper.old) cache.old }
-    ensures ran { Ran (OneStep (sites_of code.now patterns.now) cache.old cache.new (K.reads keeper.old) (K.reads keeper.new)) code.now machine.old machine.new (K.saved keeper.old) (K.saved keeper.new) (K.current keeper.old) (K.current keeper.new) (K.kept keeper.new) (K.under_way keeper.new) result }
+    ensures ran { Ran (OneStep code.now (sites_of code.now patterns.now) cache.old cache.new (K.reads keeper.old) (K.reads keeper.new) reached.new) code.now machine.old machine.new (K.saved keeper.old) (K.saved keeper.new) (K.current keeper.old) (K.current keeper.new) (K.kept keeper.new) (K.under_way keeper.new) result }
     ensures units { machine.new.frames.units ≤ machine.old.frames.units }
     ensures answers { LeavesAnswers code.now (K.saved keeper.new) (K.current keeper.new) cache.old cache.new result }
     ensures cause { HasCause TurnStop.Keeper (K.faults keeper.old) (K.faults keeper.new) result }
 {
+    *reached = Reached::Nothing;
     let operations = Operators { alloc };
     match machine.advance(alloc, &operations, code) {
         Pause::Page(page) => {
@@ -166,7 +171,9 @@ fn to_next_store_call<K: Keeper>(
         Pause::Spent => Err(TurnStop::Spent),
         Pause::Store(op, args) => {
             let mut units = machine.units();
-            let value = store_call(alloc, code, patterns, keeper, cache, &mut units, op, args)?;
+            let value = store_call(
+                alloc, code, patterns, keeper, cache, &mut units, reached, op, args,
+            )?;
             machine.answer(value, units);
             Ok(Turn::More)
         }

@@ -50,7 +50,7 @@ fn name_of(alloc: Global, cookies: &List<Cookie>, number: u32) -> Result<Text, M
 fn text_of(alloc: Global, value: &Value) -> Result<Text, Memory>
     ensures { IfOk result (λ text. text ≡ segment value.now) }
 {
-    if value.is_atomic() {
+    if value.is_basic() {
         Ok(ur_tags::segment(alloc, value)?)
     } else {
         Ok(List::new(alloc))

@@ -15,10 +15,10 @@ ghost use Rattle.ur_machine.specs.Changing.{Made};
 ghost use Rattle.ur_machine.specs.StoreCalls.{Gives, OneStep, Takes, StoreCall};
 ghost use Rattle.ur_machine.specs.Ready.{AreReady};
 
-use crate::add_masks;
 use crate::queries::{charge, failed};
 use crate::stop::TurnStop;
 use crate::turns_calls::{change_rows, scan};
+use crate::{Reached, add_masks};
 use std::alloc::Global;
 use ur_base::{List, Memory, Text};
 use ur_cache::Cache;
@@ -36,22 +36,25 @@ pub(crate) fn write<K: Keeper>(
     keeper: &mut K,
     cache: &mut Cache,
     units: &mut u32,
+    reached: &mut Reached,
     update: u32,
     args: List<Value>,
 ) -> Result<Value, TurnStop>
     requires fits { Fits code.now }
     requires patterns { ArePatternsOf code.now patterns.now }
+    requires nothing { reached.old ≡ Reached.Nothing }
     requires takes { Takes code.now (op.Write update) args }
     requires under_way { K.under_way keeper.old ≡ true }
     requires kept { K.kept keeper.old ≡ Keeps code.now.schema }
     requires ready { WhereTold (K.current keeper.old) (AreReady code.now.schema units.old) }
     requires saved { AreSavedAnswers code.now (K.saved keeper.old) cache.old }
     requires current { AreCurrentAnswers code.now (K.saved keeper.old) (K.current keeper.old) cache.old }
-    ensures store_call { StoreCall (OneStep (sites_of code.now patterns.now) cache.old cache.new (K.reads keeper.old) (K.reads keeper.new)) code.now (op.Write update) args units.old units.new (K.saved keeper.old) (K.saved keeper.new) (K.current keeper.old) (K.current keeper.new) (K.kept keeper.new) (K.under_way keeper.new) result }
+    ensures store_call { StoreCall (OneStep code.now (sites_of code.now patterns.now) cache.old cache.new (K.reads keeper.old) (K.reads keeper.new) reached.new) code.now (op.Write update) args units.old units.new (K.saved keeper.old) (K.saved keeper.new) (K.current keeper.old) (K.current keeper.new) (K.kept keeper.new) (K.under_way keeper.new) result }
     ensures answers { LeavesAnswers code.now (K.saved keeper.new) (K.current keeper.new) cache.old cache.new result }
     ensures cause { HasCause TurnStop.Keeper (K.faults keeper.old) (K.faults keeper.new) result }
 {
     charge(units, 1)?;
+    *reached = Reached::Change(update);
     match code.changes.get(update as usize) {
         None => unreachable!(),
         Some(change) => {

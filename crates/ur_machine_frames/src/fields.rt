@@ -16,7 +16,7 @@ pub(crate) fn atom_at<'v>(term: &Term, values: &'v Stack<Value>) -> Option<&'v V
     ensures { IfSome result (λ x. ReadsAs values.now term.now x.now) }
 {
     match value_at(term, values) {
-        Some(value) => { if value.is_atomic() { Some(value) } else { None } }
+        Some(value) => { if value.is_basic() { Some(value) } else { None } }
         None => None,
     }
 }

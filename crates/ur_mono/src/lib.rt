@@ -5,4 +5,4 @@ mod coding;
 mod law;
 
 pub use coding::mono;
-pub use law::code_keeps_meaning;
+pub use law::{code_keeps_meaning, cookies_stay_basic};

@@ -1,5 +1,6 @@
 //! The names in scope, and those that were given in it.
-ghost use Rattle.std.specs.Prelude.{◌≡◌, [], OnOk, IfOk, Some, None, bytes_eq};
+ghost use Rattle.std.specs.Prelude.{◌≡◌, [], OnOk, IfOk, IsTrue, Some, None, bytes_eq};
+ghost use Rattle.ur_base.specs.Codes.{is_refusal_code};
 ghost use Rattle.ur_base.specs.Stopping.{Says};
 ghost use Rattle.ur_syntax.specs.Names.{name_text};
 ghost use Rattle.std.specs.List.{list_any};
@@ -164,6 +165,7 @@ fn given_before(frames: &[Frame]) -> usize
 }
 
 fn refusal(alloc: Global, code: u8, span: Span, x: &Text) -> Result<Refusal, Memory>
+    requires { IsTrue (is_refusal_code code) }
     ensures { IfOk result (λ r. Says r code x.now [] × (r.span ≡ span)) }
 {
     let left = copy(alloc, x)?;

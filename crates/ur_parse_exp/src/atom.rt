@@ -23,9 +23,9 @@ use ur_lex::{Keyword, Symbol, TokenKind, Tokens};
 use ur_parse_con::read_con;
 use ur_parse_embed_code::absent;
 use ur_parse_exp_parts::{
-    FormWord, Given, Single, as_type, as_value, boxed_con, expect_word_of, folded, form_at, inner,
-    read_capital, read_dots, read_nil, read_simple, record_of, sees_base, sees_post, sees_word_of,
-    unit_of, with_one,
+    FormWord, Given, Single, as_type, as_value, boxed_con, expect_word_of, folded, form_at,
+    greatest_height, inner, read_capital, read_dots, read_nil, read_simple, record_of, sees_base,
+    sees_post, sees_word_of, unit_of, with_one,
 };
 use ur_parse_rules::{ConPlace, Parsed, expect, expect_name, sees, span, unexpected};
 use ur_syntax::Exp;
@@ -134,11 +134,13 @@ pub fn argument(
         Ok(given)
     } else if sees(tokens, at, TokenKind::Upper) {
         let (name, _end) = expect_name(alloc, tokens, at, TokenKind::Upper)?;
-        let made = read_capital(alloc, tokens, at, name)?;
+        let greatest = greatest_height(depth, levels);
+        let made = read_capital(alloc, tokens, at, name, greatest)?;
         Ok(as_value(made))
     } else {
         let inner = base(alloc, tokens, at, depth, levels, false)?;
-        let made = read_dots(alloc, tokens, at, inner)?;
+        let greatest = greatest_height(depth, levels);
+        let made = read_dots(alloc, tokens, at, inner, greatest)?;
         Ok(as_value(made))
     }
 }
@@ -158,7 +160,8 @@ fn bracketed(
 {
     let begin = at + 1;
     if sees(tokens, begin, TokenKind::Symbol(Symbol::RBracket)) {
-        let made = read_nil(alloc, tokens, at, begin + 1)?;
+        let greatest = greatest_height(depth, levels);
+        let made = read_nil(alloc, tokens, at, begin + 1, greatest)?;
         Ok(as_value(made))
     } else {
         let con = read_con(alloc, tokens, begin, depth, levels, ConPlace::Plain)?;
@@ -184,15 +187,18 @@ pub fn post(
 {
     if sees(tokens, at, TokenKind::Symbol(Symbol::LBracket)) {
         let end = expect(alloc, tokens, at + 1, TokenKind::Symbol(Symbol::RBracket))?;
-        let made = read_nil(alloc, tokens, at, end)?;
+        let greatest = greatest_height(depth, levels);
+        let made = read_nil(alloc, tokens, at, end, greatest)?;
         Ok(made)
     } else if sees_word_of(tokens, at, TokenKind::Upper, first) {
         let (name, _end) = expect_word_of(alloc, tokens, at, TokenKind::Upper, first)?;
-        let made = read_capital(alloc, tokens, at, name)?;
+        let greatest = greatest_height(depth, levels);
+        let made = read_capital(alloc, tokens, at, name, greatest)?;
         Ok(made)
     } else if sees_base(tokens, at, first) {
         let inner = base(alloc, tokens, at, depth, levels, first)?;
-        let made = read_dots(alloc, tokens, at, inner)?;
+        let greatest = greatest_height(depth, levels);
+        let made = read_dots(alloc, tokens, at, inner, greatest)?;
         Ok(made)
     } else {
         Err(unexpected(alloc, tokens, at))

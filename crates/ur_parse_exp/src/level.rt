@@ -13,7 +13,8 @@ use ur_base::{Boxed, List, Stop};
 use ur_lex::{Symbol, TokenKind, Tokens};
 use ur_parse_con::{Level, Sign, comparison_at, sign_at, taller};
 use ur_parse_exp_parts::{
-    Double, Piece, Single, apply, listed, read_gone, sees_argument, with_one, with_two,
+    Double, Piece, Single, apply, greatest_height, listed, may_grow, read_gone, sees_argument,
+    with_one, with_two,
 };
 use ur_parse_rules::{Parsed, below, pushed, sees, span, unexpected};
 use ur_syntax::Exp;
@@ -71,7 +72,9 @@ pub fn left(
     ensures refused { IfRefused result (λ r. Refuses language depth tokens.now at (of_exp (e.left (level_of level))) r) }
 {
     let mut whole = operand(alloc, tokens, at, depth, levels, level)?;
+    let greatest = greatest_height(depth, levels);
     'steps: while let Some(sign) = sign_at(tokens, whole.end, level) {
+        may_grow(whole.height, greatest)?;
         whole = step(alloc, tokens, at, depth, levels, level, sign, whole)?;
     }
     Ok(whole)
@@ -172,7 +175,8 @@ fn cons(
         last = next;
     }
     let covered = span(tokens, begin, last.end);
-    let made = listed(alloc, before, covered, last, tallest)?;
+    let greatest = greatest_height(depth, levels);
+    let made = listed(alloc, before, covered, last, tallest, greatest)?;
     Ok(made)
 }
 
@@ -215,7 +219,9 @@ fn app(
     ensures refused { IfRefused result (λ r. Refuses language depth tokens.now at (of_exp e.app) r) }
 {
     let mut function = head(alloc, tokens, at, depth, levels)?;
+    let greatest = greatest_height(depth, levels);
     'arguments: while sees_argument(tokens, function.end) {
+        may_grow(function.height, greatest)?;
         let given = argument(alloc, tokens, function.end, depth, levels)?;
         let covered = span(tokens, at, given.end);
         function = apply(alloc, covered, function, given)?;

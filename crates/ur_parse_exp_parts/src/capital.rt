@@ -15,12 +15,13 @@ use ur_parse_rules::{Parsed, expect_name, sees, span};
 use ur_syntax::Exp;
 
 /// The expression that a word in capitals begins, which stands at a place: a constructor of a datatype, or what a dot
-/// behind the name of a module takes.
+/// behind the name of a module takes, up to a height.
 pub fn read_capital(
     alloc: Global,
     tokens: &Tokens,
     from: usize,
     name: Text,
+    greatest: usize,
 ) -> Result<Parsed<Boxed<Exp>>, Stop>
     requires { Moves tokens.now from (from + 1) }
     ensures moves { IfOk result (λ p. Moves tokens.now from p.end) }
@@ -35,13 +36,13 @@ pub fn read_capital(
             let (inner, end) = expect_name(alloc, tokens, at + 1, TokenKind::Lower)?;
             let covered = span(tokens, from, end);
             let member = member_of(alloc, covered, name, inner, end)?;
-            let made = read_dots(alloc, tokens, from, member)?;
+            let made = read_dots(alloc, tokens, from, member, greatest)?;
             Ok(made)
         } else {
             let (inner, end) = expect_name(alloc, tokens, at + 1, TokenKind::Upper)?;
             let covered = span(tokens, from, end);
             let member = member_constructor_of(alloc, covered, name, inner, end)?;
-            let made = read_dots(alloc, tokens, from, member)?;
+            let made = read_dots(alloc, tokens, from, member, greatest)?;
             Ok(made)
         }
     } else {
@@ -51,12 +52,13 @@ pub fn read_capital(
     }
 }
 
-/// `[]` from a place on, whose `]` ends at another, with the names of fields behind it.
+/// `[]` from a place on, whose `]` ends at another, with the names of fields behind it, up to a height.
 pub fn read_nil(
     alloc: Global,
     tokens: &Tokens,
     from: usize,
     end: usize,
+    greatest: usize,
 ) -> Result<Parsed<Boxed<Exp>>, Stop>
     requires { Moves tokens.now from end }
     ensures moves { IfOk result (λ p. Moves tokens.now from p.end) }
@@ -65,6 +67,6 @@ pub fn read_nil(
 {
     let covered = span(tokens, from, end);
     let nil = nil_of(alloc, covered, end)?;
-    let made = read_dots(alloc, tokens, from, nil)?;
+    let made = read_dots(alloc, tokens, from, nil, greatest)?;
     Ok(made)
 }

@@ -11,6 +11,7 @@ mod ended;
 mod fold;
 mod form;
 mod gone;
+mod height;
 mod list;
 mod lists;
 mod name;
@@ -34,6 +35,7 @@ pub use ended::{
 pub use fold::{boxed_con, folded};
 pub use form::{Double, Single, unit_of, with_one, with_two};
 pub use gone::read_gone;
+pub use height::{greatest_height, may_grow};
 pub use list::{Piece, listed};
 pub use lists::{with_branch, with_field, with_let_val};
 pub use name::decl_name;

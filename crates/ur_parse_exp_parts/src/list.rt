@@ -8,6 +8,7 @@ ghost use Rattle.ur_parse_rules.specs.Expressions.{at};
 ghost use Rattle.ur_parse_exp_parts.specs.Lists.{listed};
 
 use crate::form::{Double, with_two};
+use crate::height::may_grow;
 use std::alloc::Global;
 use ur_base::{Boxed, List, Span, Stop};
 use ur_parse_rules::Parsed;
@@ -20,19 +21,21 @@ pub struct Piece {
     pub exp: Boxed<Exp>,
 }
 
-/// Expressions joined by `::` to what stands behind each, the last of which covers a span.
+/// Expressions joined by `::` to what stands behind each, the last of which covers a span, up to a height.
 pub fn listed(
     alloc: Global,
     mut left: List<Piece>,
     covered: Span,
     last: Parsed<Boxed<Exp>>,
     tallest: usize,
+    greatest: usize,
 ) -> Result<Parsed<Boxed<Exp>>, Stop>
     ensures found { IfOk result (λ p. (p.tree ≡ listed left covered last.tree) × (p.end ≡ last.end)) }
     ensures refused { IfRefused result (λ r. ⊥) }
 {
     let mut right = last;
     'pieces: while let Some(piece) = left.pop() {
+        may_grow(right.height, greatest)?;
         right = listed_one(alloc, piece, covered, right, tallest)?;
     }
     Ok(right)

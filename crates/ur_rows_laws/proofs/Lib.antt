@@ -12,4 +12,5 @@ pub mod Reading
 pub mod Fresh
 pub mod Given
 pub mod Entries
+pub mod AppliedForms
 pub mod Composed

@@ -16,8 +16,8 @@ use Rattle.ur_rows.specs.declared.normal.NormalType.TheVariants as ty
 use Rattle.ur_rows.specs.declared.normal.Normal.{Normal}
 use Rattle.ur_rows.specs.declared.normal.Normal.TheVariants as normal
 use Rattle.ur_rows.specs.Made.{unit}
-use Rattle.ur_rows.specs.Put.{instance}
-use Rattle.ur_rows.specs.Normal.{Known, at_home, nf_with, variables_with, nf_form}
+use Rattle.ur_rows.specs.Put.{put, argument, applied_once, instance}
+use Rattle.ur_rows.specs.Normal.{Known, within, at_home, nf_with, variables_with, known_in, nf_form}
 use Rattle.ur_rows.specs.Laws.{IsKindedEnv, HasMap}
 use Rattle.ur_rows_laws.specs.Instances.{outside, are_of_kinds, EachNormal}
 
@@ -50,6 +50,15 @@ variable_kinds (e ∷ rest) = kinds_with e.meaning e.kind (variable_kinds rest)
 abbrev pub FormOfInstance : ConEnv → Type 0
 FormOfInstance env = (free : List Kind) (args : List Normal) (c : ConForm) (k : Kind) → IsKindedEnv env → HasKind (scope_in env) c k → EachNormal args →
     are_of_kinds (outside free) args (variable_kinds env.entries) ≡ true → nf_at args env c ≡ instance args (nf_form env c)
+
+-- An applied function has the form of the application: of the function's form at the argument's. Of `fn x :: k => c` that is the
+-- form of c with the argument's form in place of x.
+pub record FormOfApplied (env : ConEnv) : Type 0 where
+  pub applied : (p q : Span) (f a : ConForm) (k j : Kind) → IsKindedEnv env → HasKind (scope_in env) f (arrow k j) → HasKind (scope_in env) a k
+      → nf_form env (apply_con p f q a) ≡ applied_once (nf_form env f) (nf_form env a)
+  pub written : (p q s : Span) (x : List ℕ) (k j : Kind) (c a : ConForm) → IsKindedEnv env → HasKind (scope_in env) (fn_con x k s c) (arrow k j)
+      → HasKind (scope_in env) a k
+      → nf_form env (apply_con p (fn_con x k s c) q a) ≡ put (argument (nf_form env a)) 0 (nf_with (within x k (known_in env)) c [])
 
 abbrev pub is_some : Option Kind → Bool
 is_some None = false

@@ -9,4 +9,4 @@ pub use instance_laws_laws::{
     instance_keeps_kinds, instance_of_applied, instance_of_map, instance_of_union,
 };
 pub use laws::{applied_is_defined, definitions_stand, forms_are_normal, forms_have_kinds};
-pub use reading_laws_laws::{form_of_instance, map_of_written};
+pub use reading_laws_laws::{form_of_applied, form_of_instance, map_of_written};

@@ -5,5 +5,7 @@ pub mod Taking
 pub mod Replying
 pub mod Requests
 pub mod Starting
+pub mod Noted
 pub mod Turns
+pub mod Remembered
 pub mod ServeSessions

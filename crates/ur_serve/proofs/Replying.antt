@@ -1,5 +1,5 @@
 -- What a request is answered with.
-use Rattle.std.proofs.Common.{◌≡◌, ℕ, ◌+◌, ◌-◌, ◌≤◌, Bool, true, false, ◌||◌, if◌then◌else◌, List, [], Option, Some, None, refl, sym, ap, subst, ◌∙◌, arith, inl, inr}
+use Rattle.std.proofs.Common.{◌≡◌, ℕ, ◌-◌, ◌≤◌, Bool, true, false, ◌||◌, if◌then◌else◌, List, [], Option, Some, None, refl, sym, ap, subst, ◌∙◌, arith, inl, inr}
 use Rattle.std.specs.Prelude.{◌⊎◌}
 use Rattle.ur_base.specs.Told.{WhereTold, Tells}
 use Rattle.ur_values.specs.declared.schema.Schema.{Schema}
@@ -41,6 +41,9 @@ use Rattle.ur_serve.specs.Handling as handling
 use Rattle.ur_serve.specs.Finishing.{Finishes, IsDone, IsAnswered}
 use Rattle.ur_serve.specs.Served.{IfDone, UnlessDone}
 use Rattle.ur_serve.specs.Serving.{ServerState, AreServable, GrowBy}
+use Rattle.ur_pages.specs.declared.page.Ask.{Ask}
+use Rattle.ur_pages.specs.Pages.{Remembered}
+use Rattle.ur_serve.specs.Pages.{ArePagesOf}
 use Rattle.ur_serve.proofs.Starting.{starts_call}
 
 -- ---- the begin of a transaction
@@ -153,51 +156,51 @@ module _ (code : Code) (patterns : Patterns) (steps : ℕ) (q : HttpRequest) (cl
   )
 
   -- what the last turn says of its answer
-  done_at : (m m' : Machine) (c c₁ c' : Cached) (s : Tables) (current saved' : Option Tables) (reads reads' : ℕ) (t : Turn) (r : Reply)
+  done_at : (m m' : Machine) (c c₁ c' : Cached) (s : Tables) (current saved' : Option Tables) (reads reads' : ℕ) (asks₀ asks : Option (List Ask)) (t : Turn) (r : Reply)
       → left (does_code code) code m (store_of s) [] ≡ outcome code call (state_held (carried code.cookies q.cookies) [] (store_of s) [] steps) → c.masks ≡ []
-      → HandledAs (sites_of code patterns) code m m' (store_of s) current c c₁ reads reads' t → Finishes q close (Some s) current saved' c₁ c' t r
+      → HandledAs (sites_of code patterns) code m m' (store_of s) current c c₁ reads reads' asks₀ asks t → Finishes q close (Some s) current saved' c₁ c' t r
       → IfDone r (IsDone code patterns steps q close c c' s saved' reads reads')
-  done_at m m' c c₁ c' s current saved' reads reads' t reply.Keeper starts no_mask h f = tt
-  done_at m m' c c₁ c' s current saved' reads reads' t reply.Memory starts no_mask h f = tt
-  done_at m m' c c₁ c' s current saved' reads reads' t (reply.Done own) starts no_mask (handling.page x u events after is follows) f =
+  done_at m m' c c₁ c' s current saved' reads reads' asks₀ asks t reply.Keeper starts no_mask h f = tt
+  done_at m m' c c₁ c' s current saved' reads reads' asks₀ asks t reply.Memory starts no_mask h f = tt
+  done_at m m' c c₁ c' s current saved' reads reads' asks₀ asks t (reply.Done own) starts no_mask (handling.page x u events after is follows noted) f =
       let st : State = state_held m'.frames.carried m'.frames.sent (store_of u) events m'.frames.units in
       done_by (Done x st) _ own c c₁ c' s saved' reads reads' (sym is ∙ starts) (replies.page x st) f.0 no_mask follows
       (f.2 ∙ ap (settled c₁) (settle_page q.method x st)) (tells_page q.method saved' current s u x st f.1 after refl)
-  done_at m m' c c₁ c' s current saved' reads reads' t (reply.Done own) starts no_mask (handling.failure (Some body) events is follows) f =
+  done_at m m' c c₁ c' s current saved' reads reads' asks₀ asks t (reply.Done own) starts no_mask (handling.failure (Some body) events is follows) f =
       done_by (Error body events) _ own c c₁ c' s saved' reads reads' (sym is ∙ starts) (replies.error body events) f.0 no_mask follows
       (f.2 ∙ ap (settled c₁) (settle_failed q.method (Some body) events)) (tells_at saved' s _ f.1 (store_failed q.method (Some body) events (store_of s)))
-  done_at m m' c c₁ c' s current saved' reads reads' t (reply.Done own) starts no_mask (handling.failure None events is follows) f =
+  done_at m m' c c₁ c' s current saved' reads reads' asks₀ asks t (reply.Done own) starts no_mask (handling.failure None events is follows) f =
       done_by (Spent events) _ own c c₁ c' s saved' reads reads' (sym is ∙ starts) (replies.spent events) f.0 no_mask follows
       (f.2 ∙ ap (settled c₁) (settle_failed q.method None events)) (tells_at saved' s _ f.1 (store_failed q.method None events (store_of s)))
-  done_at m m' c c₁ c' s current saved' reads reads' t (reply.Done own) starts no_mask handling.keeper f = absurd f
-  done_at m m' c c₁ c' s current saved' reads reads' t (reply.Done own) starts no_mask handling.memory f = absurd f
+  done_at m m' c c₁ c' s current saved' reads reads' asks₀ asks t (reply.Done own) starts no_mask handling.keeper f = absurd f
+  done_at m m' c c₁ c' s current saved' reads reads' asks₀ asks t (reply.Done own) starts no_mask handling.memory f = absurd f
 
-  done_told : (m m' : Machine) (c c₁ c' : Cached) (saved saved₁ current₁ current saved' : Option Tables) (reads reads₁ reads₂ reads' : ℕ) (t : Turn) (r : Reply)
+  done_told : (m m' : Machine) (c c₁ c' : Cached) (saved saved₁ current₁ current saved' : Option Tables) (reads reads₁ reads₂ reads' : ℕ) (asks₀ asks : Option (List Ask)) (t : Turn) (r : Reply)
       → Starts code call q.cookies steps m → c.masks ≡ [] → current₁ ≡ saved → saved₁ ≡ saved → reads₁ ≡ reads → reads' ≡ reads₂
-      → WhereTold current₁ (λ s. HandledAs (sites_of code patterns) code m m' (store_of s) current c c₁ reads₁ reads₂ t) → Finishes q close saved₁ current saved' c₁ c' t r
+      → WhereTold current₁ (λ s. HandledAs (sites_of code patterns) code m m' (store_of s) current c c₁ reads₁ reads₂ asks₀ asks t) → Finishes q close saved₁ current saved' c₁ c' t r
       → WhereTold saved (λ s. IfDone r (IsDone code patterns steps q close c c' s saved' reads reads'))
-  done_told m m' c c₁ c' None saved₁ current₁ current saved' reads reads₁ reads₂ reads' t r starts no_mask ec es er eq h f = tt
-  done_told m m' c c₁ c' (Some s) saved₁ current₁ current saved' reads reads₁ reads₂ reads' t r starts no_mask ec es er eq h f =
+  done_told m m' c c₁ c' None saved₁ current₁ current saved' reads reads₁ reads₂ reads' asks₀ asks t r starts no_mask ec es er eq h f = tt
+  done_told m m' c c₁ c' (Some s) saved₁ current₁ current saved' reads reads₁ reads₂ reads' asks₀ asks t r starts no_mask ec es er eq h f =
       subst (λ n. IfDone r (IsDone code patterns steps q close c c' s saved' reads n)) (sym eq)
-      (done_at m m' c c₁ c' s current saved' reads reads₂ t r (starts_call code call q.cookies steps m starts (store_of s)) no_mask
-      (subst (λ n. HandledAs (sites_of code patterns) code m m' (store_of s) current c c₁ n reads₂ t) er
-      (subst (λ o. WhereTold o (λ z. HandledAs (sites_of code patterns) code m m' (store_of z) current c c₁ reads₁ reads₂ t)) ec h))
+      (done_at m m' c c₁ c' s current saved' reads reads₂ asks₀ asks t r (starts_call code call q.cookies steps m starts (store_of s)) no_mask
+      (subst (λ n. HandledAs (sites_of code patterns) code m m' (store_of s) current c c₁ n reads₂ asks₀ asks t) er
+      (subst (λ o. WhereTold o (λ z. HandledAs (sites_of code patterns) code m m' (store_of z) current c c₁ reads₁ reads₂ asks₀ asks t)) ec h))
       (subst (λ o. Finishes q close o current saved' c₁ c' t r) es f))
 
   -- a request whose call was handled
-  pub answered_call : (m m' : Machine) (c c₁ c' : Cached) (saved saved₁ current₁ current saved' : Option Tables) (kept₁ kept' : KeptSchema) (under_way under_way' : Bool) (reads reads₁ reads₂ reads' : ℕ) (t : Turn) (r : Reply)
+  pub answered_call : (m m' : Machine) (c c₁ c' : Cached) (saved saved₁ current₁ current saved' : Option Tables) (kept₁ kept' : KeptSchema) (under_way under_way' : Bool) (reads reads₁ reads₂ reads' : ℕ) (asks₀ asks : Option (List Ask)) (t : Turn) (r : Reply) (pages' : List Remembered)
       → Starts code call q.cookies steps m → m.frames.units ≡ steps → c.masks ≡ [] → WhereTold saved (AreServable code.schema)
       → current₁ ≡ saved → saved₁ ≡ saved → reads₁ ≡ reads
-      → WhereTold current₁ (λ s. HandledAs (sites_of code patterns) code m m' (store_of s) current c c₁ reads₁ reads₂ t)
+      → WhereTold current₁ (λ s. HandledAs (sites_of code patterns) code m m' (store_of s) current c c₁ reads₁ reads₂ asks₀ asks t)
       → IsKeeperUndone t saved₁ current under_way → kept₁ ≡ Keeps code.schema → c₁.capacity ≡ c.capacity
       → (under_way ≡ true → WhereTold current (AreReady code.schema m'.frames.units))
       → (under_way ≡ true → RaisedBy (m.frames.units - m'.frames.units) current₁ current)
       → Finishes q close saved₁ current saved' c₁ c' t r
-      → AreSavedAnswers code saved' c' → c'.masks ≡ [] → c'.capacity ≡ c₁.capacity → under_way' ≡ false → kept' ≡ kept₁ → reads' ≡ reads₂
-      → IsAnswered code patterns steps q close c c' saved saved' kept' under_way' reads reads' r
-  answered_call m m' c c₁ c' saved saved₁ current₁ current saved' kept₁ kept' under_way under_way' reads reads₁ reads₂ reads' t r
-      starts units no_mask servable ec es er h undone ek cap₁ ready raised f answers masks cap rest same_kept eq = record {
-        done = done_told m m' c c₁ c' saved saved₁ current₁ current saved' reads reads₁ reads₂ reads' t r starts no_mask ec es er eq h f;
+      → AreSavedAnswers code saved' c' → c'.masks ≡ [] → c'.capacity ≡ c₁.capacity → under_way' ≡ false → kept' ≡ kept₁ → reads' ≡ reads₂ → ArePagesOf code steps saved' pages'
+      → IsAnswered code patterns steps q close c c' pages' saved saved' kept' under_way' reads reads' r
+  answered_call m m' c c₁ c' saved saved₁ current₁ current saved' kept₁ kept' under_way under_way' reads reads₁ reads₂ reads' asks₀ asks t r pages'
+      starts units no_mask servable ec es er h undone ek cap₁ ready raised f answers masks cap rest same_kept eq pages = record {
+        done = done_told m m' c c₁ c' saved saved₁ current₁ current saved' reads reads₁ reads₂ reads' asks₀ asks t r starts no_mask ec es er eq h f;
         unsaved = still r (unsaved_at q close saved₁ current saved' c₁ c' t r f);
         schema = same_kept ∙ ek;
         at_rest = rest;
@@ -206,6 +209,7 @@ module _ (code : Code) (patterns : Patterns) (steps : ℕ) (q : HttpRequest) (cl
         no_mask = masks;
         capacity = cap ∙ cap₁;
         growth = growth ends_so;
+        pages = pages;
       }
     where
       ends_so : SavedAs q close saved₁ current saved' c₁ c' under_way
@@ -230,10 +234,10 @@ module _ (code : Code) (patterns : Patterns) (steps : ℕ) (q : HttpRequest) (cl
 -- ---- other answers
 
 -- want of memory leaves the tables
-pub answered_memory : (code : Code) (patterns : Patterns) (steps : ℕ) (q : HttpRequest) (close : Bool) (c c' : Cached) (saved saved' : Option Tables) (kept' : KeptSchema) (under_way' : Bool) (reads reads' : ℕ)
-    → WhereTold saved (AreServable code.schema) → saved' ≡ saved → kept' ≡ Keeps code.schema → under_way' ≡ false → AreSavedAnswers code saved' c' → c'.masks ≡ [] → c'.capacity ≡ c.capacity
-    → IsAnswered code patterns steps q close c c' saved saved' kept' under_way' reads reads' reply.Memory
-answered_memory code patterns steps q close c c' saved saved' kept' under_way' reads reads' servable es ek rest answers masks cap = record {
+pub answered_memory : (code : Code) (patterns : Patterns) (steps : ℕ) (q : HttpRequest) (close : Bool) (c c' : Cached) (saved saved' : Option Tables) (kept' : KeptSchema) (under_way' : Bool) (reads reads' : ℕ) (pages' : List Remembered)
+    → WhereTold saved (AreServable code.schema) → saved' ≡ saved → kept' ≡ Keeps code.schema → under_way' ≡ false → AreSavedAnswers code saved' c' → c'.masks ≡ [] → c'.capacity ≡ c.capacity → ArePagesOf code steps saved pages'
+    → IsAnswered code patterns steps q close c c' pages' saved saved' kept' under_way' reads reads' reply.Memory
+answered_memory code patterns steps q close c c' saved saved' kept' under_way' reads reads' pages' servable es ek rest answers masks cap pages = record {
   done = told_all saved _ (λ t e. tt);
   unsaved = es;
   schema = ek;
@@ -243,14 +247,15 @@ answered_memory code patterns steps q close c c' saved saved' kept' under_way' r
   no_mask = masks;
   capacity = cap;
   growth = subst (GrowBy steps saved) (sym es) (raised_none steps saved);
+  pages = subst (λ o. ArePagesOf code steps o pages') (sym es) pages;
 }
 
 -- a request that is turned away
-pub answered_away : (code : Code) (patterns : Patterns) (steps : ℕ) (q : HttpRequest) (close : Bool) (c : Cached) (saved : Option Tables) (kept : KeptSchema) (under_way : Bool) (reads status : ℕ) (allowed own : List ℕ) (head closes : Bool)
+pub answered_away : (code : Code) (patterns : Patterns) (steps : ℕ) (q : HttpRequest) (close : Bool) (c : Cached) (saved : Option Tables) (kept : KeptSchema) (under_way : Bool) (reads status : ℕ) (allowed own : List ℕ) (head closes : Bool) (pages' : List Remembered)
     → routed code.handlers q ≡ turned_away status allowed → head ≡ is_head q.method → closes ≡ (q.close || close) → own ≡ status_answer status allowed head closes
-    → WhereTold saved (AreServable code.schema) → kept ≡ Keeps code.schema → under_way ≡ false → AreSavedAnswers code saved c → c.masks ≡ []
-    → IsAnswered code patterns steps q close c c saved saved kept under_way reads reads (reply.Done own)
-answered_away code patterns steps q close c saved kept under_way reads status allowed own head closes is eh el same servable ek rest answers masks = record {
+    → WhereTold saved (AreServable code.schema) → kept ≡ Keeps code.schema → under_way ≡ false → AreSavedAnswers code saved c → c.masks ≡ [] → ArePagesOf code steps saved pages'
+    → IsAnswered code patterns steps q close c c pages' saved saved kept under_way reads reads (reply.Done own)
+answered_away code patterns steps q close c saved kept under_way reads status allowed own head closes pages' is eh el same servable ek rest answers masks pages = record {
   done = told_all saved _ (λ t e. (
     record { bytes = status_answer status allowed (is_head q.method) (q.close || close); closes = q.close || close; after = record { store = store_of t; entries = c.entries; reads = reads } },
     replies.away status allowed is,
@@ -268,6 +273,7 @@ answered_away code patterns steps q close c saved kept under_way reads status al
   no_mask = masks;
   capacity = refl;
   growth = raised_none steps saved;
+  pages = pages;
 }
   where
     whole : status_answer status allowed head closes ≡ status_answer status allowed (is_head q.method) (q.close || close)
@@ -280,3 +286,7 @@ pub server_saved : (s : ServerState) (code : Code) (c : Cached) (saved : Option 
     → code ≡ s.code → c ≡ s.cache → AreSavedAnswers code saved c
 server_saved s code c saved typed answers same_code same_cache =
     subst (λ z. AreSavedAnswers z saved c) (sym same_code) (subst (AreSavedAnswers s.code saved) (sym same_cache) (record { entries = typed; over_saved = answers }))
+
+-- and of the pages
+pub server_pages : (s : ServerState) (code : Code) (saved : Option Tables) → ArePagesOf s.code s.steps saved s.pages → code ≡ s.code → ArePagesOf code s.steps saved s.pages
+server_pages s code saved pages same = subst (λ z. ArePagesOf z s.steps saved s.pages) (sym same) pages

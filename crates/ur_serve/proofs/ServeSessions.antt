@@ -1,5 +1,5 @@
 -- The server as what answers the requests of sessions.
-use Rattle.std.proofs.Common.{◌≡◌, ◌≤◌, ℕ, suc, ◌+◌, ◌*◌, Bool, ◌||◌, List, Option, Some, None, refl, sym, ap, subst, ◌∙◌, arith}
+use Rattle.std.proofs.Common.{◌≡◌, ◌≤◌, ℕ, suc, ◌+◌, ◌*◌, Bool, List, Option, Some, None, refl, sym, ap, subst, ◌∙◌, arith}
 use Rattle.std.proofs.Math.Nat.{mul-suc, mul-le-mul_left}
 use Rattle.ur_base.specs.Told.{WhereTold, Tells}
 use Rattle.ur_values.specs.Store.{Store}

@@ -1,5 +1,5 @@
 -- What becomes of a request once its last turn is over, and what an answer is in all.
-use Rattle.std.specs.Prelude.{◌≡◌, ℕ, Bool, false, ◌||◌, List, [], Option, Result, Ok, Err, if◌then◌else◌}
+use Rattle.std.specs.Prelude.{◌≡◌, ℕ, Bool, false, ◌||◌, List, [], Option, Result, Ok, Err, ⊤, if◌then◌else◌}
 use Rattle.ur_base.specs.declared.refusal.Memory.{Memory}
 use Rattle.ur_base.specs.Told.{WhereTold, Tells}
 use Rattle.ur_keeper.specs.Tables.{Tables, KeptSchema, Keeps, store_of}
@@ -19,6 +19,8 @@ use Rattle.ur_serve.specs.Replies.{is_head, is_post}
 use Rattle.ur_serve.specs.Program.{code_program, Holding, CachedAnswers}
 use Rattle.ur_serve.specs.Served.{IfDone, UnlessDone}
 use Rattle.ur_serve.specs.Serving.{AreServable, GrowBy}
+use Rattle.ur_pages.specs.Pages.{Remembered}
+use Rattle.ur_serve.specs.Pages.{ArePagesOf}
 use Rattle.ur_serve.specs.Ending.{settle_for}
 
 -- an answer that was built is given, and then the first holds; or it is not given, and then the second does
@@ -26,6 +28,13 @@ abbrev pub EndsWith : Result (List ℕ) Memory → (given unsaved : Type 0) → 
 EndsWith (Ok bytes) given unsaved (reply.Done own) = (own ≡ bytes) × given
 EndsWith (Err e) given unsaved (reply.Done own) = ⊥
 EndsWith built given unsaved r = unsaved
+
+-- an answer that was built is given, or this is why it is not
+abbrev pub IsGivenOr : Type 0 → Result (List ℕ) Memory → Reply → Type 0
+IsGivenOr cause (Ok bytes) (reply.Done own) = own ≡ bytes
+IsGivenOr cause (Ok bytes) reply.Keeper = cause
+IsGivenOr cause (Ok bytes) reply.Memory = ⊥
+IsGivenOr cause (Err e) r = ⊤
 
 -- A page is answered with its cookies, and a POST's tables are saved; a failure is answered by its page, without cookies, and
 -- saves nothing. Where nothing is answered nothing is saved.
@@ -46,7 +55,7 @@ IsDone code patterns steps q close c c' saved saved' reads reads' bytes = (a : A
     × (bytes ≡ a.bytes) × (a.closes ≡ (q.close || close)) × Tells saved' (λ u. store_of u ≡ a.after.store) × (c'.entries ≡ a.after.entries) × (reads' ≡ a.after.reads)
 
 -- all that holds of the answer to a request but the causes of faults
-pub record IsAnswered (code : Code) (patterns : Patterns) (steps : ℕ) (q : HttpRequest) (close : Bool) (c c' : Cached) (saved saved' : Option Tables)
+pub record IsAnswered (code : Code) (patterns : Patterns) (steps : ℕ) (q : HttpRequest) (close : Bool) (c c' : Cached) (pages' : List Remembered) (saved saved' : Option Tables)
     (kept' : KeptSchema) (under_way' : Bool) (reads reads' : ℕ) (r : Reply) : Type 0 where
   pub done : WhereTold saved (λ t. IfDone r (IsDone code patterns steps q close c c' t saved' reads reads'))
   pub unsaved : UnlessDone r (saved' ≡ saved)
@@ -57,3 +66,4 @@ pub record IsAnswered (code : Code) (patterns : Patterns) (steps : ℕ) (q : Htt
   pub no_mask : c'.masks ≡ []
   pub capacity : c'.capacity ≡ c.capacity
   pub growth : GrowBy steps saved saved'
+  pub pages : ArePagesOf code steps saved' pages'

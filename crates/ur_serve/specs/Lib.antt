@@ -8,6 +8,9 @@ pub mod Faults
 pub mod Ending
 pub mod Finishing
 pub mod Handling
+pub mod Noting
+pub mod Pages
+pub mod Remembering
 pub mod Program
 pub mod Replies
 pub mod Responding

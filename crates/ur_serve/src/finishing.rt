@@ -8,7 +8,7 @@ ghost use Rattle.ur_cache.specs.Entries.{settled};
 ghost use Rattle.ur_machine.specs.Answers.{AreSavedAnswers, AreCurrentAnswers};
 ghost use Rattle.ur_machine.specs.Turning.{IsKeeperUndone};
 ghost use Rattle.ur_serve.specs.Ending.{settle_for};
-ghost use Rattle.ur_serve.specs.Finishing.{EndsWith, Finishes};
+ghost use Rattle.ur_serve.specs.Finishing.{EndsWith, Finishes, IsGivenOr};
 ghost use Rattle.ur_serve.specs.Handling.{IsLast};
 ghost use Rattle.ur_serve.specs.Replies as words;
 ghost use Rattle.ur_serve.specs.Serving.{AreServable};
@@ -98,7 +98,7 @@ pub(crate) fn closes(request: &HttpRequest, close: bool) -> bool
     request.close || close
 }
 
-fn is_post(method: Method) -> bool
+pub(crate) fn is_post(method: Method) -> bool
     ensures { result ≡ words.is_post method }
 {
     match method {
@@ -128,6 +128,8 @@ fn end_with<K: Keeper>(
     ensures reads { K.reads keeper.new ≡ K.reads keeper.old }
     ensures later { K.faults keeper.old ≤ K.faults keeper.new }
     ensures cause { result ≡ Reply.Keeper → Rose (K.faults keeper.old) (K.faults keeper.new) }
+    // Where a commit takes no memory, an answer that was built is given, unless the count rose.
+    ensures in_room { K.commits_in_room ≡ true → IsGivenOr (Rose (K.faults keeper.old) (K.faults keeper.new)) built result }
 {
     match built {
         Ok(bytes) => match end(code, keeper, cache, saves) {

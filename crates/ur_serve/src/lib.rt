@@ -10,6 +10,8 @@ mod finishing;
 mod handling;
 mod law;
 mod laws;
+mod noting;
+mod remembering;
 mod responder;
 mod responding;
 mod routing;

@@ -1,26 +1,34 @@
 //! The server.
 use crate::answering::answer_request;
 use crate::attaching::attach;
+use crate::remembering::no_pages;
 use crate::{NewEnd, Reply};
 use std::alloc::Global;
 use std::marker::Model;
+use ur_base::List;
 use ur_cache::Cache;
 use ur_conditions::Patterns;
 use ur_http::HttpRequest;
 use ur_keeper::Keeper;
+use ur_pages::Pages;
+use ur_pure::all_touching;
 use ur_verify::Verified;
 
-/// The code that is served, its patterns, the cache of its answers, and the units of each request.
+/// The code that is served, its patterns, the cache of its answers, the units of each request, the pages that are remembered, and of
+/// each function whether it does more than ask.
 #[derive(Drop)]
 pub struct Server {
     verified: Verified,
     patterns: Patterns,
     cache: Cache,
     steps: u32,
+    pages: Pages,
+    touching: List<bool>,
 }
 
 impl Model for Server {
     ghost use Rattle.std.specs.Coded.{codes};
+    ghost use Rattle.ur_serve.specs.Remembering.{AreTouching};
     ghost use Rattle.ur_serve.specs.Serving.{ServerState, IsServer};
     ghost use Rattle.ur_values.specs.contracts.value.Value as value;
     ghost use Rattle.ur_values.specs.contracts.types.ValueType as value_type;
@@ -31,9 +39,9 @@ impl Model for Server {
 
     ghost coded = { Prim.hlevel (codes, value.the_row.coded, value_type.the_row.coded, scalar.the_row.coded, term.the_row.coded) };
 
-    ghost view = { λ s. record { code = s.verified; patterns = s.patterns; cache = s.cache; steps = s.steps } };
+    ghost view = { λ s. record { code = s.verified; patterns = s.patterns; cache = s.cache; steps = s.steps; pages = s.pages.list } };
 
-    ghost invariant = { λ s. IsServer (record { code = s.verified; patterns = s.patterns; cache = s.cache; steps = s.steps }) };
+    ghost invariant = { λ s. IsServer (record { code = s.verified; patterns = s.patterns; cache = s.cache; steps = s.steps; pages = s.pages.list }) × AreTouching s.verified s.touching };
 }
 
 impl Server {
@@ -51,7 +59,7 @@ impl Server {
     ghost use Rattle.ur_serve.specs.Serving.{IsReady, IsSameServer, GrowBy};
     ghost use Rattle.ur_serve.specs.Finishing.{IsDone};
 
-    /// Attaches the keeper. The cache is empty. `Handlers::are_routes` tells whether the routes can be served.
+    /// Attaches the keeper. The cache is empty, and no page is remembered. `Handlers::are_routes` tells whether the routes can be served.
     pub fn new<K: Keeper>(
         alloc: Global,
         verified: Verified,
@@ -63,7 +71,7 @@ impl Server {
         requires routes { AreRoutes verified.handlers }
         requires patterns { ArePatternsOf verified patterns }
         requires at_rest { K.under_way keeper.old ≡ false }
-        ensures made { IfOk result (λ s. s ≡ record { code = verified; patterns = patterns; cache = record { capacity = cache; entries = []; masks = [] }; steps = steps }) }
+        ensures made { IfOk result (λ s. s ≡ record { code = verified; patterns = patterns; cache = record { capacity = cache; entries = []; masks = [] }; steps = steps; pages = [] }) }
         ensures ready { IfOk result (λ s. IsReady s (K.kept keeper.new) (K.under_way keeper.new) (K.saved keeper.new)) }
         // Where the kept schema was told: an empty store has the schema's empty tables, and one with an equal schema is as it was.
         ensures attached { OnOk result (AttachesTo verified.schema (K.kept keeper.old) Ready (K.saved keeper.old) (K.saved keeper.new)) }
@@ -75,13 +83,17 @@ impl Server {
         ensures reads { K.reads keeper.new ≡ K.reads keeper.old }
         ensures never_falls { K.faults keeper.old ≤ K.faults keeper.new }
     {
+        let pages = no_pages(alloc, cache);
         let cache = Cache::new(alloc, cache)?;
+        let touching = all_touching(alloc, &verified.code().functions)?;
         attach(&verified.code().schema, keeper)?;
         Ok(Server {
             verified,
             patterns,
             cache,
             steps,
+            pages,
+            touching,
         })
     }
 
@@ -112,6 +124,8 @@ impl Server {
             code,
             &self.patterns,
             &mut self.cache,
+            &mut self.pages,
+            self.touching.as_slice(),
             self.steps,
             keeper,
             request,

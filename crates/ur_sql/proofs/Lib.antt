@@ -1,5 +1,6 @@
 pub mod Equations
 pub mod Examples
+pub mod HeadKinds
 pub mod ItemsRead
 pub mod Joining
 pub mod KeyedGroups
@@ -9,7 +10,7 @@ pub mod NewRows
 pub mod Operands
 pub mod Outcome
 pub mod PlannedRows
+pub mod Presented
 pub mod SortedGroups
 pub mod StableSort
-pub mod Stored
 pub mod Typed

@@ -9,10 +9,12 @@ use Rattle.ur_values.specs.declared.schema.ColumnKind.{ColumnKind}
 use Rattle.ur_values.specs.declared.schema.ColumnKind.TheVariants as kind
 use Rattle.ur_values.specs.Values.{IsInt}
 use Rattle.ur_values.specs.Order.{value_cmp}
-use Rattle.ur_values.specs.Store.{Row, FitsKind, FitKinds}
+use Rattle.ur_values.specs.Kinds.{inside}
+use Rattle.ur_values.specs.Store.{Row, FitsBasic, FitsKind, FitKinds}
 use Rattle.ur_sql.specs.declared.scalar.Scalar.{Scalar, more_of-Scalar as one, end_of-Scalar as end}
 use Rattle.ur_sql.specs.declared.scalar.Scalar.TheVariants as s
-use Rattle.ur_sql.specs.Scalar.{value_of, on_ints, int_neg, is_true, compares}
+use Rattle.ur_values.proofs.Fitting.{basic_fits, absent_fits, present_fits}
+use Rattle.ur_sql.specs.Scalar.{value_of, on_ints, int_neg, presented, is_true, compares}
 use Rattle.ur_sql.specs.Typing.{Kinds, HasKind}
 
 pub item_fits : (rows : List Row) (items : List (List ColumnKind)) (i : ℕ) → AllZip FitKinds rows items → FitKinds (get_or rows i []) (get_or items i [])
@@ -68,6 +70,21 @@ neg_fits _ k e a = absurd a
 bool_fits : (b : Bool) (k : ColumnKind) → k ≡ kind.Bool → FitsKind (v.Bool b) k
 bool_fits b k e = subst (FitsKind (v.Bool b)) (sym e) tt
 
+-- SOME of what has the kind inside an optional one is Present of it
+basic_presented : (x : Value) (j : ColumnKind) → FitsBasic x j → presented x ≡ v.Present x
+basic_presented (v.Int n) kind.Int f = refl
+basic_presented (v.Str t) kind.Str f = refl
+basic_presented (v.Bool b) kind.Bool f = refl
+basic_presented _ _ f = absurd f
+
+pub presented_is : (x : Value) (j k : ColumnKind) → inside k ≡ Some j → FitsKind x j → presented x ≡ v.Present x
+presented_is x j kind.Int e f = cc
+presented_is x j kind.Str e f = cc
+presented_is x j kind.Bool e f = cc
+presented_is x j kind.OptInt e f = let same : j ≡ kind.Int = cc in basic_presented x kind.Int (subst (FitsKind x) same f)
+presented_is x j kind.OptStr e f = let same : j ≡ kind.Str = cc in basic_presented x kind.Str (subst (FitsKind x) same f)
+presented_is x j kind.OptBool e f = let same : j ≡ kind.Bool = cc in basic_presented x kind.Bool (subst (FitsKind x) same f)
+
 -- a bool is what it tests as
 pub bool_is : (x : Value) (b : Bool) → FitsKind x kind.Bool → is_true x ≡ b → x ≡ v.Bool b
 bool_is (v.Bool a) b f e = ap v.Bool e
@@ -76,7 +93,7 @@ bool_is _ b f e = absurd f
 module _ (ks : Kinds) (params : List Value) (rows : List Row) (params_fit : FitKinds params ks.params) (rows_fit : AllZip FitKinds rows ks.items) where
   pub value_fits : (e : Scalar) (k : ColumnKind) → HasKind ks e k → FitsKind (value_of params rows e) k
   unfolding value_of
-  value_fits (s.Constant x) k h = h
+  value_fits (s.Constant x) k h = basic_fits x k h
   value_fits (s.Column i c) k h = cell_fits (get_or rows i []) (get_or ks.items i []) c k (item_fits rows ks.items i rows_fit) h
   value_fits (s.Param n) k h = cell_fits params ks.params n k params_fit h
   value_fits (s.Or' _ (one a end) _ (one b end)) k h = bool_fits (is_true (value_of params rows a) || is_true (value_of params rows b)) k (h.0)
@@ -87,3 +104,7 @@ module _ (ks : Kinds) (params : List Value) (rows : List Row) (params_fit : FitK
   value_fits (s.Sub' _ (one a end) _ (one b end)) k h = ints_fit (int_wrapping_sub w64) difference_fits (value_of params rows a) (value_of params rows b) k (h.0) (value_fits a kind.Int (h.1)) (value_fits b kind.Int (h.2))
   value_fits (s.Mul' _ (one a end) _ (one b end)) k h = ints_fit (int_wrapping_mul w64) product_fits (value_of params rows a) (value_of params rows b) k (h.0) (value_fits a kind.Int (h.1)) (value_fits b kind.Int (h.2))
   value_fits (s.Neg' _ (one a end)) k h = neg_fits (value_of params rows a) k (h.0) (value_fits a kind.Int (h.1))
+  value_fits (s.Null j) k h = subst (FitsKind v.Absent) (sym (h.0)) (absent_fits j (h.1))
+  value_fits (s.Present' _ (one a end)) k h =
+      subst (λ x. FitsKind x k) (sym (presented_is (value_of params rows a) (h.0) k (h.1) (value_fits a (h.0) (h.2))))
+      (present_fits (value_of params rows a) (h.0) k (h.1) (value_fits a (h.0) (h.2)))

@@ -6,7 +6,7 @@ ghost use Rattle.ur_sql.specs.Operand.{value_in};
 ghost use Rattle.ur_sql.specs.Scalar.{column_at, value_of, holds, holds_if_any};
 
 use crate::operand::{
-    Operand, add, compare_operands, compares, is_true, multiply, negate, subtract,
+    Operand, add, compare_operands, compares, is_true, multiply, negate, presented, subtract,
 };
 use crate::scalar::Scalar;
 use std::alloc::Global;
@@ -79,6 +79,8 @@ pub fn evaluate<'a>(params: &'a [Value], rows: &[&'a Row], by: &'a Scalar) -> Op
             multiply(left, evaluate(params, rows, b.get()))
         }
         Scalar::Neg(a) => negate(evaluate(params, rows, a.get())),
+        Scalar::Null(_) => Operand::Absent,
+        Scalar::Present(a) => presented(evaluate(params, rows, a.get())),
     }
 }
 

@@ -1,10 +1,10 @@
 //! A change as changes of single rows.
 ghost use Rattle.std.specs.Prelude.{◌≡◌, ◌&&◌, [], nat_le, IfOk, All};
 ghost use Rattle.ur_values.specs.Keys.{repeated_key, most_rows};
-ghost use Rattle.ur_values.specs.Store.{FitKinds, FitsShape, IsStorable, kinds_of};
+ghost use Rattle.ur_values.specs.Store.{FitKinds, FitsShape, kinds_of};
 ghost use Rattle.ur_values.specs.Numbered.{HaveRisingNumbers};
 ghost use Rattle.ur_sql.specs.Change.{is_insert, unless_repeated};
-ghost use Rattle.ur_sql.specs.Plan.{plan, planned_as, OnChanges, OfNewRow, Makes, AreStorableConstants};
+ghost use Rattle.ur_sql.specs.Plan.{plan, planned_as, OnChanges, OfNewRow, Makes};
 ghost use Rattle.ur_sql.specs.Typing.{ActionFits};
 ghost use Rattle.ur_sql.specs.Merged.{merged};
 
@@ -35,7 +35,6 @@ pub fn plan(
     ensures exact { IfOk result (λ p. p ≡ plan change.now.action args.now shape.now.keys rows.now) }
     ensures makes { IfOk result (λ p. OnChanges p (Makes change.now.action args.now shape.now.keys rows.now)) }
     ensures fits { IfOk result (λ p. OnChanges p (All (OfNewRow (FitsShape shape.now)))) }
-    ensures sizes { All IsStorable args.now → All (λ r. All IsStorable r.row) rows.now → AreStorableConstants change.now.action → IfOk result (λ p. OnChanges p (All (OfNewRow (All IsStorable)))) }
 {
     plan_action(alloc, &change.action, args, rows, &shape.keys)
 }

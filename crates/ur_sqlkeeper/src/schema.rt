@@ -15,7 +15,7 @@ pub(crate) fn is_empty(schema: &Schema) -> bool
 
 /// Whether there is the one table, with the index of its key, and nothing else.
 pub(crate) fn is_ours(schema: &Schema) -> bool
-    ensures { IsTrue result → schema.now ≡ ur_schema }
+    ensures { IsTrue result ↔ (schema.now ≡ ur_schema) }
 {
     let [table] = schema.tables.as_slice() else {
         return false;
@@ -27,7 +27,7 @@ pub(crate) fn is_ours(schema: &Schema) -> bool
 }
 
 fn is_table(table: &Table) -> bool
-    ensures { IsTrue result → table.now ≡ ur_row }
+    ensures { IsTrue result ↔ (table.now ≡ ur_row) }
 {
     table.name.as_slice() == b"ur_row".as_slice()
         && table.tree == 0
@@ -39,7 +39,7 @@ fn is_table(table: &Table) -> bool
 }
 
 fn has_columns(table: &Table) -> bool
-    ensures { IsTrue result → table.now.columns ≡ ur_row.columns }
+    ensures { IsTrue result ↔ (table.now.columns ≡ ur_row.columns) }
 {
     let [tab, num, body] = table.columns.as_slice() else {
         return false;
@@ -51,7 +51,7 @@ fn has_columns(table: &Table) -> bool
 
 /// Whether it has this name and affinity, is NOT NULL and has no default.
 fn is_column(column: &Column, name: &[u8], kind: Kind) -> bool
-    ensures { IsTrue result → column.now ≡ column_named name.now kind }
+    ensures { IsTrue result ↔ (column.now ≡ column_named name.now kind) }
 {
     column.name.as_slice() == name
         && column.kind == kind
@@ -63,21 +63,21 @@ fn is_column(column: &Column, name: &[u8], kind: Kind) -> bool
 
 /// Whether the primary key is its first two columns.
 fn has_key(table: &Table) -> bool
-    ensures { IsTrue result → (table.now.key ≡ ur_row.key) × (table.now.primary ≡ ur_row.primary) }
+    ensures { IsTrue result ↔ ((table.now.key ≡ ur_row.key) × (table.now.primary ≡ ur_row.primary)) }
 {
     table.key.is_none() && is_place(table.primary.as_slice())
 }
 
 /// Whether these are the places of the first two columns.
 fn is_place(columns: &[usize]) -> bool
-    ensures { IsTrue result → columns.now ≡ ur_key.columns }
+    ensures { IsTrue result ↔ (columns.now ≡ ur_key.columns) }
 {
     columns == [1usize, 2].as_slice()
 }
 
 /// Whether those two are all that is unique.
 fn has_unique(table: &Table) -> bool
-    ensures { IsTrue result → table.now.uniques ≡ ur_row.uniques }
+    ensures { IsTrue result ↔ (table.now.uniques ≡ ur_row.uniques) }
 {
     let [key] = table.uniques.as_slice() else {
         return false;
@@ -87,7 +87,7 @@ fn has_unique(table: &Table) -> bool
 
 /// Whether their index ascends by bytes.
 fn has_order(table: &Table) -> bool
-    ensures { IsTrue result → table.now.orders ≡ ur_row.orders }
+    ensures { IsTrue result ↔ (table.now.orders ≡ ur_row.orders) }
 {
     let [order] = table.orders.as_slice() else {
         return false;
@@ -97,7 +97,7 @@ fn has_order(table: &Table) -> bool
 
 /// Whether there is no check, reference or default that is computed, and no count of its rowids.
 fn has_no_more(table: &Table) -> bool
-    ensures { IsTrue result → (table.now.checks ≡ []) × (table.now.references ≡ []) × (table.now.computed ≡ []) × (table.now.stamps ≡ ur_row.stamps) × (table.now.is_counted ≡ false) }
+    ensures { IsTrue result ↔ ((table.now.checks ≡ []) × (table.now.references ≡ []) × (table.now.computed ≡ []) × (table.now.stamps ≡ ur_row.stamps) × (table.now.is_counted ≡ false)) }
 {
     table.checks.roots.is_empty()
         && table.references.is_empty()
@@ -109,7 +109,7 @@ fn has_no_more(table: &Table) -> bool
 }
 
 fn is_index(index: &Index) -> bool
-    ensures { IsTrue result → index.now ≡ ur_key }
+    ensures { IsTrue result ↔ (index.now ≡ ur_key) }
 {
     index.name.as_slice() == b"sqlite_autoindex_ur_row_1".as_slice()
         && index.tree == 1

@@ -15,6 +15,7 @@ use Rattle.ur_syntax.specs.declared.sql.SqlQuery.{SqlQuery}
 use Rattle.ur_values.specs.declared.schema.ColumnKind.{ColumnKind}
 use Rattle.ur_values.specs.declared.schema.ColumnKind.TheVariants as kind
 use Rattle.ur_sql.specs.declared.scalar.Scalar.{Scalar}
+use Rattle.ur_sql.specs.declared.scalar.Scalar.TheVariants as scalar
 use Rattle.ur_sql.specs.declared.query.Query.{Query}
 use Rattle.ur_sql.specs.declared.query.OrderKey.{OrderKey}
 use Rattle.ur_sql.specs.declared.query.Field.TheVariants as field
@@ -22,34 +23,38 @@ use Rattle.ur_sql.specs.declared.query.Aggregate.TheVariants as aggregate
 use Rattle.ur_sql.specs.declared.query.Bound.{Bound}
 use Rattle.ur_sql.specs.declared.query.Bound.TheVariants as bound
 use Rattle.ur_sqltype.specs.declared.scope.Within.{Within}
-use Rattle.ur_sqltype.specs.Expression.{Kinded, kinded, same_kind}
-use Rattle.ur_sqltype.specs.Faults.{HasFault, Misfits, faulty, other_kind, FaultyIsNone}
+use Rattle.ur_sqltype.specs.Expression.{Kinded, kinded, is_optional, as_kind, valued}
+use Rattle.ur_sqltype.specs.Faults.{HasFault, Misfits, faulty, other_kind, MisfitsColumn, null_given, value_given, FaultyIsNone}
 use Rattle.ur_sqltype.specs.Lists.{all_of, maybe, repeated}
 use Rattle.ur_sqltype.specs.Tables.{source_of, source_at, sources_of, table_at}
-use Rattle.ur_sqltype.specs.Query.{if_kind, of_kind, of_some_kind, on_of, ons_of, as_column, column_in, aggregated, ordered, int_param, limited, name_of, column_form, selected_columns, named_form, named_field, same_column, once_chosen, chosen_of, named_of, fields_with, all_fields, once_named, fields_of, field_number, Chosen, alias_fields, in_order, is_descending, begun, reads, with_on, with_filter, with_fields, with_group, with_order, with_limit, with_offset, to_filter, to_fields, to_group, to_order, to_limit, stated, once_aliased, items_of, outside, well_grouped, query_over, query_of}
+use Rattle.ur_sqltype.specs.Query.{of_kind, of_some_kind, if_basic, of_basic_kind, on_of, ons_of, as_column, column_in, aggregated, ordered, int_param, limited, name_of, column_form, selected_columns, named_form, named_field, same_column, once_chosen, chosen_of, named_of, fields_with, all_fields, once_named, fields_of, field_number, Chosen, alias_fields, in_order, is_descending, begun, reads, with_on, with_filter, with_fields, with_group, with_order, with_limit, with_offset, to_filter, to_fields, to_group, to_order, to_limit, stated, once_aliased, items_of, outside, well_grouped, query_over, query_of}
 use Rattle.ur_sqltype.specs.SqltypeFaults as fault
-use Rattle.ur_sqltype.specs.SqltypeFaults.{IsCondition, Selects, IsColumn, IsBound, BoundBreaks, IsNoColumn, ColumnBreaks, AggregateBreaks, ItemBreaks, ChosenTwice, FieldsClash, Ungrouped, Breaks, AliasTwice, NoItem, NoSource, QueryHasFault, FaultyQueryIsNone}
+use Rattle.ur_sqltype.specs.SqltypeFaults.{IsCondition, Selects, IsColumn, IsBound, BoundBreaks, IsNoColumn, ColumnBreaks, BasicBreaks, AggregateBreaks, ItemBreaks, ChosenTwice, FieldsClash, Ungrouped, Breaks, AliasTwice, NoItem, NoSource, QueryHasFault, FaultyQueryIsNone}
+use Rattle.ur_sqltype.proofs.Faultless.{other_kind_is_false}
 use Rattle.ur_sqltype.proofs.Taken.{then_none, first_none, map_none, found_none}
 use Rattle.ur_sqltype.proofs.Missing.{none_in, flat_none, one_none, if_false}
 
 -- ---- expressions
 
-pub same_false : (j k : ColumnKind) → j ≢ k → same_kind j k ≡ false
-same_false kind.Int kind.Int n = absurd (n refl)
-same_false kind.Int kind.Str n = refl
-same_false kind.Int kind.Bool n = refl
-same_false kind.Str kind.Int n = refl
-same_false kind.Str kind.Str n = absurd (n refl)
-same_false kind.Str kind.Bool n = refl
-same_false kind.Bool kind.Int n = refl
-same_false kind.Bool kind.Str n = refl
-same_false kind.Bool kind.Bool n = absurd (n refl)
-
 module _ (none : FaultyIsNone) where
   pub kind_none : (w : Within) (e : SqlExp) (k : ColumnKind) (r : Refusal) → Misfits w e.form k r → of_kind k w e ≡ None
-  kind_none w e k r (faulty f) = first_none (if_kind k) (kinded w e.form) (none w e.form r f)
+  kind_none w e k r (faulty f) = first_none (as_kind k) (kinded w e.form) (none w e.form r f)
   kind_none w e k r (other_kind {x = x} {found = found} h n t) =
-      ap (λ o. option_and_then (if_kind k) o) h ∙ (let made : Option Scalar = Some x in ap (λ b. if b then made else None) (same_false found k n))
+      ap (λ o. option_and_then (as_kind k) o) h ∙ (let made : Option Scalar = Some x in ap (λ b. if b then made else None) (other_kind_is_false found k n))
+
+  -- what is no value of its column sets nothing
+  pub value_none : (w : Within) (e : SqlExp) (k : ColumnKind) (r : Refusal) → MisfitsColumn w e.form k r → valued k w e ≡ None
+  value_none w e k r (null_given n o t) =
+      let made : Option Scalar = Some (scalar.Null k) in
+      ap (λ z. if z then (if is_optional k then made else None) else option_and_then (as_kind k) (kinded w e.form)) n ∙ ap (λ z. if z then made else None) o
+  value_none w e k r (value_given n m) =
+      let made : Option Scalar = Some (scalar.Null k) in
+      ap (λ z. if z then (if is_optional k then made else None) else option_and_then (as_kind k) (kinded w e.form)) n ∙ kind_none w e k r m
+
+  basic_none : (w : Within) (e : SqlExp) (r : Refusal) → BasicBreaks w e r → of_basic_kind w e ≡ None
+  basic_none w e r (fault.basic_faulty f) = first_none if_basic (kinded w e.form) (none w e.form r f)
+  basic_none w e r (fault.is_option x k h o t) =
+      ap (λ m. option_and_then if_basic m) h ∙ (let made : Option Scalar = Some x in ap (λ b. if b then None else made) o)
 
   pub some_none : (w : Within) (e : SqlExp) (r : Refusal) → HasFault w e.form r → of_some_kind w e ≡ None
   some_none w e r f = map_none (λ (x : Kinded). x.0) (kinded w e.form) (none w e.form r f)
@@ -60,8 +65,8 @@ module _ (none : FaultyIsNone) where
 
   aggregate_none : (w : Within) (g : WrittenAggregate) (r : Refusal) → AggregateBreaks w r g → aggregated w g ≡ None
   aggregate_none w _ r (fault.no_sum e m) = map_none aggregate.Sum (of_kind kind.Int w e) (kind_none w e kind.Int r m)
-  aggregate_none w _ r (fault.least e f) = map_none aggregate.Min (of_some_kind w e) (some_none w e r f)
-  aggregate_none w _ r (fault.greatest e f) = map_none aggregate.Max (of_some_kind w e) (some_none w e r f)
+  aggregate_none w _ r (fault.least e f) = map_none aggregate.Min (of_basic_kind w e) (basic_none w e r f)
+  aggregate_none w _ r (fault.greatest e f) = map_none aggregate.Max (of_basic_kind w e) (basic_none w e r f)
 
   -- what is selected with an AS name and has a fault is no field
   item_none : (names : List (List ℕ)) (w : Within) (s : Selected) (r : Refusal) → ItemBreaks w r s → all_of (named_field names w) (named_form s) ≡ None
@@ -94,6 +99,9 @@ no_int : (n : ℕ) (k : ColumnKind) → k ≢ kind.Int → int_param n k ≡ Non
 no_int n kind.Int h = absurd (h refl)
 no_int n kind.Str h = refl
 no_int n kind.Bool h = refl
+no_int n kind.OptInt h = refl
+no_int n kind.OptStr h = refl
+no_int n kind.OptBool h = refl
 
 limit_none : (w : Within) (l : Limit) (r : Refusal) → BoundBreaks w r l → limited w l ≡ None
 limit_none w _ r (fault.too_great n h t) = let made : Option Bound = Some (bound.Is (pos n)) in if_false (nat_lt n (2 ^ 63)) made (below n h)

@@ -13,6 +13,7 @@ use Rattle.ur_sql.specs.declared.change.Action.{Action}
 use Rattle.ur_sql.specs.declared.change.Action.TheVariants as action
 use Rattle.ur_sqltype.specs.declared.scope.Within.{Within}
 use Rattle.ur_sqltype.specs.Scope.{column_of}
+use Rattle.ur_sqltype.specs.Expression.{valued}
 use Rattle.ur_sqltype.specs.Faults.{FaultyIsNone, Misfits}
 use Rattle.ur_sqltype.specs.Lists.{all_of, repeated}
 use Rattle.ur_sqltype.specs.Tables.{table_at}
@@ -22,7 +23,7 @@ use Rattle.ur_sqltype.specs.SqltypeFaults as fault
 use Rattle.ur_sqltype.specs.SqltypeFaults.{Sets, ConditionOf, SetBreaks, SetsBreak, InsertBreaks, ActBreaks, ChangeHasFault, FaultyChangeIsNone}
 use Rattle.ur_sqltype.proofs.Taken.{then_none, first_none, map_none, found_none}
 use Rattle.ur_sqltype.proofs.Missing.{none_in, if_none_then, if_false}
-use Rattle.ur_sqltype.proofs.Faulty.{kind_none}
+use Rattle.ur_sqltype.proofs.Faulty.{kind_none, value_none}
 
 other_length : (m n : ℕ) → m ≢ n → nat_eq m n ≡ false
 other_length m n h = grind (arith, nat_tests, h)
@@ -30,7 +31,8 @@ other_length m n h = grind (arith, nat_tests, h)
 module _ (none : FaultyIsNone) where
   set_none : (w : Within) (columns : List (List ℕ × ColumnKind)) (p : List ℕ × SqlExp) (r : Refusal) → SetBreaks w columns p r → set_at w columns p ≡ None
   set_none w columns p r (fault.column_unknown h t) = first_none (set_of w p.1) (column_of p.0 columns) h
-  set_none w columns p r (fault.value_misfits at k h m) = ap (λ o. option_and_then (set_of w p.1) o) h ∙ map_none (λ (x : Scalar). (at, x)) (of_kind k w p.1) (kind_none none w p.1 k r m)
+  set_none w columns p r (fault.value_misfits at k h m) =
+      ap (λ o. option_and_then (set_of w p.1) o) h ∙ map_none (λ (x : Scalar). (at, x)) (valued k w p.1) (value_none none w p.1 k r m)
 
   sets_none : (w : Within) (columns : List (List ℕ × ColumnKind)) (ps : List (List ℕ × SqlExp)) (r : Refusal) → SetsBreak w columns ps r → sets_of w columns ps ≡ None
   sets_none w columns ps r (fault.in_set p c b) = first_none once_set (all_of (set_at w columns) ps) (none_in (set_at w columns) ps p c (set_none w columns p r b))

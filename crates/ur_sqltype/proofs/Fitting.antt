@@ -3,11 +3,12 @@ use Rattle.std.proofs.lemmas.Bool.Decides.{nat_tests}
 use Rattle.std.proofs.lemmas.Str.{IsUtf8-from_is_utf8}
 use Rattle.std.proofs.lemmas.Int.{ints}
 use Rattle.std.proofs.Common.{arith, ◌≡◌, ◌∙◌, refl, sym, ap, subst, Bool, true, false, true≢false, Option, Some, None, List, [], ◌∷◌, ℕ, zero, suc, ◌+◌, ◌<◌, map, inl, inr}
-use Rattle.std.specs.Prelude.{◌⊎◌, ◌^◌, nat_lt, pos, if◌then◌else◌, option_map, option_and_then, slice_get, slice_index_or, bytes_eq}
+use Rattle.std.specs.Prelude.{◌⊎◌, ◌^◌, IsSome, nat_lt, pos, if◌then◌else◌, option_map, option_and_then, slice_get, slice_index_or, bytes_eq}
 use Rattle.std.specs.Str.{is_utf8}
 use denote.Hole.Carrier
 use Rattle.ur_syntax.specs.declared.sql.SqlForm.{end_of-SqlExp as alone, more_of-SqlExp as its}
 use Rattle.ur_syntax.specs.declared.sql.SqlForm.TheVariants as form
+use Rattle.ur_values.specs.Kinds.{inside, optional}
 use Rattle.ur_values.specs.Values.{IsInt}
 use Rattle.ur_values.specs.declared.schema.ColumnKind.{ColumnKind}
 use Rattle.ur_values.specs.declared.schema.ColumnKind.TheVariants as kind
@@ -25,21 +26,48 @@ use Rattle.ur_sqltype.specs.declared.operators.Operator.TheVariants as does
 use Rattle.ur_sqltype.specs.declared.scope.Source.{Source}
 use Rattle.ur_sqltype.specs.declared.scope.Within.{Within}
 use Rattle.ur_sqltype.specs.Scope.{named_from, column_of, column_at}
-use Rattle.ur_sqltype.specs.Expression.{Kinded, kinded, same_kind, may_compare, side_kind, join_of, joined, compared, operated, operator_of, on_both, one_is, column_scalar, bare_scalar, int_scalar, text_scalar}
-use Rattle.ur_sqltype.specs.Fits.{kinds_of_source, kinds_within, first_columns, BareStand, KindedFits}
+use Rattle.ur_sqltype.specs.Expression.{Kinded, kinded, same_kind, may_compare, side_kind, join_of, joined, compared, operated, operator_of, on_both, one_is, column_scalar, bare_scalar, int_scalar, text_scalar, is_null, is_optional, is_equality, with_null, null_compared, some_scalar, equated, binary, as_kind}
+use Rattle.ur_sqltype.specs.Fits.{kinds_of_source, kinds_within, first_columns, BareStand, KindedFits, ValuedFits}
 
 -- ---- tests
 
-same_is : (j k : ColumnKind) → same_kind j k ≡ true → j ≡ k
+pub same_is : (j k : ColumnKind) → same_kind j k ≡ true → j ≡ k
 same_is kind.Int kind.Int e = refl
 same_is kind.Int kind.Str e = absurd (true≢false (sym e))
 same_is kind.Int kind.Bool e = absurd (true≢false (sym e))
+same_is kind.Int kind.OptInt e = absurd (true≢false (sym e))
+same_is kind.Int kind.OptStr e = absurd (true≢false (sym e))
+same_is kind.Int kind.OptBool e = absurd (true≢false (sym e))
 same_is kind.Str kind.Int e = absurd (true≢false (sym e))
 same_is kind.Str kind.Str e = refl
 same_is kind.Str kind.Bool e = absurd (true≢false (sym e))
+same_is kind.Str kind.OptInt e = absurd (true≢false (sym e))
+same_is kind.Str kind.OptStr e = absurd (true≢false (sym e))
+same_is kind.Str kind.OptBool e = absurd (true≢false (sym e))
 same_is kind.Bool kind.Int e = absurd (true≢false (sym e))
 same_is kind.Bool kind.Str e = absurd (true≢false (sym e))
 same_is kind.Bool kind.Bool e = refl
+same_is kind.Bool kind.OptInt e = absurd (true≢false (sym e))
+same_is kind.Bool kind.OptStr e = absurd (true≢false (sym e))
+same_is kind.Bool kind.OptBool e = absurd (true≢false (sym e))
+same_is kind.OptInt kind.Int e = absurd (true≢false (sym e))
+same_is kind.OptInt kind.Str e = absurd (true≢false (sym e))
+same_is kind.OptInt kind.Bool e = absurd (true≢false (sym e))
+same_is kind.OptInt kind.OptInt e = refl
+same_is kind.OptInt kind.OptStr e = absurd (true≢false (sym e))
+same_is kind.OptInt kind.OptBool e = absurd (true≢false (sym e))
+same_is kind.OptStr kind.Int e = absurd (true≢false (sym e))
+same_is kind.OptStr kind.Str e = absurd (true≢false (sym e))
+same_is kind.OptStr kind.Bool e = absurd (true≢false (sym e))
+same_is kind.OptStr kind.OptInt e = absurd (true≢false (sym e))
+same_is kind.OptStr kind.OptStr e = refl
+same_is kind.OptStr kind.OptBool e = absurd (true≢false (sym e))
+same_is kind.OptBool kind.Int e = absurd (true≢false (sym e))
+same_is kind.OptBool kind.Str e = absurd (true≢false (sym e))
+same_is kind.OptBool kind.Bool e = absurd (true≢false (sym e))
+same_is kind.OptBool kind.OptInt e = absurd (true≢false (sym e))
+same_is kind.OptBool kind.OptStr e = absurd (true≢false (sym e))
+same_is kind.OptBool kind.OptBool e = refl
 
 none_is : {A : Type 0} {x : A} {C : Type 0} → None ≡ Some x → C
 none_is e = absurd (cc)
@@ -73,10 +101,10 @@ join_has ks join.Mul x y h i = (refl, h, i)
 may : (c : Comparison) (k : ColumnKind) → may_compare c k ≡ true → Compares c k
 may compare.Equal k e = tt
 may compare.Unequal k e = tt
-may compare.Less k e = λ is. true≢false (sym e ∙ ap (may_compare compare.Less) is)
-may compare.LessEqual k e = λ is. true≢false (sym e ∙ ap (may_compare compare.LessEqual) is)
-may compare.Greater k e = λ is. true≢false (sym e ∙ ap (may_compare compare.Greater) is)
-may compare.GreaterEqual k e = λ is. true≢false (sym e ∙ ap (may_compare compare.GreaterEqual) is)
+may compare.Less k e = e
+may compare.LessEqual k e = e
+may compare.Greater k e = e
+may compare.GreaterEqual k e = e
 
 compare_has : (ks : Kinds) (c : Comparison) (k : ColumnKind) (x y : Scalar) → HasKind ks x k → HasKind ks y k → Compares c k → HasKind ks (scalar.Compare c x y) kind.Bool
 unfolding block.hidden-the_row-Scalar-0 Carrier.hidden
@@ -118,6 +146,77 @@ one_has ks k f None o r e g = none_is e
 one_has ks k f (Some u) o r e g =
     let t = one_test (same_kind u.1 k) (f u.0, k) o e in
     has ks (f u.0, k) o t.1 (r u.0 (subst (HasKind ks u.0) (same_is u.1 k t.0) (g u.0 u.1 refl)))
+
+-- ---- NULL and options
+
+some_inside : (k : ColumnKind) → is_optional k ≡ true → IsSome (inside k)
+some_inside kind.Int e = absurd (true≢false (sym e))
+some_inside kind.Str e = absurd (true≢false (sym e))
+some_inside kind.Bool e = absurd (true≢false (sym e))
+some_inside kind.OptInt e = refl
+some_inside kind.OptStr e = refl
+some_inside kind.OptBool e = refl
+
+inside_optional : (j k : ColumnKind) → optional j ≡ Some k → inside k ≡ Some j
+inside_optional kind.Int k e = let same : kind.OptInt ≡ k = cc in ap inside (sym same)
+inside_optional kind.Str k e = let same : kind.OptStr ≡ k = cc in ap inside (sym same)
+inside_optional kind.Bool k e = let same : kind.OptBool ≡ k = cc in ap inside (sym same)
+inside_optional kind.OptInt k e = none_is e
+inside_optional kind.OptStr k e = none_is e
+inside_optional kind.OptBool k e = none_is e
+
+equality_compares : (c : Comparison) (k : ColumnKind) → is_equality c ≡ true → Compares c k
+equality_compares compare.Equal k e = tt
+equality_compares compare.Unequal k e = tt
+equality_compares compare.Less k e = absurd (true≢false (sym e))
+equality_compares compare.LessEqual k e = absurd (true≢false (sym e))
+equality_compares compare.Greater k e = absurd (true≢false (sym e))
+equality_compares compare.GreaterEqual k e = absurd (true≢false (sym e))
+
+null_has : (ks : Kinds) (k : ColumnKind) → is_optional k ≡ true → HasKind ks (scalar.Null k) k
+null_has ks k e = (refl, some_inside k e)
+
+with_null_has : (ks : Kinds) (c : Comparison) (first : Bool) (x : Scalar) (k : ColumnKind) → is_equality c ≡ true → is_optional k ≡ true → HasKind ks x k →
+    HasKind ks (with_null c first x k) kind.Bool
+with_null_has ks c true x k q o h = compare_has ks c k (scalar.Null k) x (null_has ks k o) h (equality_compares c k q)
+with_null_has ks c false x k q o h = compare_has ks c k x (scalar.Null k) h (null_has ks k o) (equality_compares c k q)
+
+null_compared_has : (ks : Kinds) (c : Comparison) (first : Bool) (o u : Kinded) → is_equality c ≡ true → null_compared c first u ≡ Some o →
+    HasKind ks u.0 u.1 → HasKind ks o.0 o.1
+null_compared_has ks c first o u q e h =
+    let t = one_test (is_optional u.1) (with_null c first u.0 u.1, kind.Bool) o e in
+    has ks (with_null c first u.0 u.1, kind.Bool) o t.1 (with_null_has ks c first u.0 u.1 q t.0 h)
+
+present_has : (ks : Kinds) (x : Scalar) (j k : ColumnKind) → inside k ≡ Some j → HasKind ks x j → HasKind ks (scalar.Present x) k
+unfolding block.hidden-the_row-Scalar-0 Carrier.hidden
+present_has ks x j k e h = (j, e, h)
+
+some_has : (ks : Kinds) (o u : Kinded) → some_scalar u ≡ Some o → HasKind ks u.0 u.1 → HasKind ks o.0 o.1
+some_has ks o u e h = at (optional u.1) refl e
+  where
+    at : (m : Option ColumnKind) → optional u.1 ≡ m → option_map (λ k. (scalar.Present u.0, k)) m ≡ Some o → HasKind ks o.0 o.1
+    at None f g = none_is g
+    at (Some k) f g = has ks (scalar.Present u.0, k) o (some_is g) (present_has ks u.0 u.1 k (inside_optional u.1 k f) h)
+
+part_has : (ks : Kinds) (f : Kinded → Option Kinded) (m : Option Kinded) (o : Kinded) →
+    ((u : Kinded) → f u ≡ Some o → HasKind ks u.0 u.1 → HasKind ks o.0 o.1) → option_and_then f m ≡ Some o → Known ks m → HasKind ks o.0 o.1
+part_has ks f None o r e g = none_is e
+part_has ks f (Some u) o r e g = r u e (g u.0 u.1 refl)
+
+equated_has : (ks : Kinds) (c : Comparison) (m n : Bool) (x y : Option Kinded) (o : Kinded) → is_equality c ≡ true → equated c m n x y ≡ Some o →
+    Known ks x → Known ks y → HasKind ks o.0 o.1
+equated_has ks c true n x y o q e g h = part_has ks (null_compared c true) y o (λ u. null_compared_has ks c true o u q) e h
+equated_has ks c false true x y o q e g h = part_has ks (null_compared c false) x o (λ u. null_compared_has ks c false o u q) e g
+equated_has ks c false false x y o q e g h = both_have ks (does.Compares c) x y o e g h
+
+binary_has : (ks : Kinds) (f : Operator) (m n : Bool) (x y : Option Kinded) (o : Kinded) → binary f m n x y ≡ Some o → Known ks x → Known ks y →
+    HasKind ks o.0 o.1
+binary_has ks (does.Joins j) m n x y o e g h = both_have ks (does.Joins j) x y o e g h
+binary_has ks (does.Compares c) m n x y o e g h = at (is_equality c) refl e
+  where
+    at : (b : Bool) → is_equality c ≡ b → (if b then equated c m n x y else on_both (compared c) x y) ≡ Some o → HasKind ks o.0 o.1
+    at true q f = equated_has ks c m n x y o q f g h
+    at false q f = both_have ks (does.Compares c) x y o f g h
 
 -- ---- columns
 
@@ -215,9 +314,38 @@ fits w b form.Null x k e = none_is e
 fits w b (form.Qualified q a) x k e = qualified_has w q a (x, k) e
 fits w b (form.Column a) x k e = bare_has w b a (x, k) e
 fits w b (form.Anti n) x k e = param_has (kinds_within w) n (x, k) e
-fits w b (form.Binary' o _ (its p a alone) _ (its q c alone)) x k e = both_have (kinds_within w) (operator_of o) (kinded w a) (kinded w c) (x, k) e (fits w b a) (fits w b c)
+fits w b (form.Binary' o _ (its p a alone) _ (its q c alone)) x k e =
+    binary_has (kinds_within w) (operator_of o) (is_null a) (is_null c) (kinded w a) (kinded w c) (x, k) e (fits w b a) (fits w b c)
 fits w b (form.Not' _ (its p a alone)) x k e = one_has (kinds_within w) kind.Bool scalar.Not (kinded w a) (x, k) (not_has (kinds_within w)) e (fits w b a)
 fits w b (form.Negative' _ (its p a alone)) x k e = one_has (kinds_within w) kind.Int scalar.Neg (kinded w a) (x, k) (neg_has (kinds_within w)) e (fits w b a)
-fits w b (form.IsNull' _ a) x k e = none_is e
-fits w b (form.IsNotNull' _ a) x k e = none_is e
-fits w b (form.Some' _ a) x k e = none_is e
+fits w b (form.IsNull' _ (its p a alone)) x k e =
+    part_has (kinds_within w) (null_compared compare.Equal false) (kinded w a) (x, k)
+    (λ u. null_compared_has (kinds_within w) compare.Equal false (x, k) u refl) e (fits w b a)
+fits w b (form.IsNotNull' _ (its p a alone)) x k e =
+    part_has (kinds_within w) (null_compared compare.Unequal false) (kinded w a) (x, k)
+    (λ u. null_compared_has (kinds_within w) compare.Unequal false (x, k) u refl) e (fits w b a)
+fits w b (form.Some' _ (its p a alone)) x k e =
+    part_has (kinds_within w) some_scalar (kinded w a) (x, k) (λ u. some_has (kinds_within w) (x, k) u) e (fits w b a)
+
+-- ---- values of columns
+
+pub valued_fits : ValuedFits
+valued_fits w b k e x h = at (is_null e.form) h
+  where
+    of_null : (o : Bool) → is_optional k ≡ o → (if o then Some (scalar.Null k) else None) ≡ Some x → HasKind (kinds_within w) x k
+    of_null true o g = subst (λ z. HasKind (kinds_within w) z k) (some_is g) (null_has (kinds_within w) k o)
+    of_null false o g = none_is g
+
+    of_kind : (b : Bool) (u : Kinded) → same_kind u.1 k ≡ b → HasKind (kinds_within w) u.0 u.1 → (if b then Some u.0 else None) ≡ Some x →
+        HasKind (kinds_within w) x k
+    of_kind true u s i g = subst (λ z. HasKind (kinds_within w) z k) (some_is g) (subst (HasKind (kinds_within w) u.0) (same_is u.1 k s) i)
+    of_kind false u s i g = none_is g
+
+    of_some : (m : Option Kinded) → Known (kinds_within w) m → option_and_then (as_kind k) m ≡ Some x → HasKind (kinds_within w) x k
+    of_some None i g = none_is g
+    of_some (Some u) i g = of_kind (same_kind u.1 k) u refl (i u.0 u.1 refl) g
+
+    at : (n : Bool) → (if n then (if is_optional k then Some (scalar.Null k) else None) else option_and_then (as_kind k) (kinded w e.form)) ≡ Some x →
+        HasKind (kinds_within w) x k
+    at true g = of_null (is_optional k) refl g
+    at false g = of_some (kinded w e.form) (fits w b e.form) g

@@ -18,6 +18,7 @@ use Rattle.ur_sql.specs.declared.change.Action.TheVariants as action
 use Rattle.ur_sql.specs.Typing.{HasKind, SetsFit, ActionFits, ChangeFits}
 use Rattle.ur_sqltype.specs.declared.scope.Within.{Within}
 use Rattle.ur_sqltype.specs.Scope.{column_of}
+use Rattle.ur_sqltype.specs.Expression.{valued}
 use Rattle.ur_sqltype.specs.Fits.{kinds_within, BareStand, KindedFits}
 use Rattle.ur_sqltype.specs.Lists.{all_of, repeated}
 use Rattle.ur_sqltype.proofs.Once.{distinct}
@@ -27,6 +28,7 @@ use Rattle.ur_sqltype.specs.Change.{within_insert, within_row, set_of, set_at, s
 use Rattle.ur_sqltype.specs.SqltypeFits.{ChangeOfFits}
 use Rattle.ur_sqltype.proofs.Taken.{then_taken, map_taken, none_taken}
 use Rattle.ur_sqltype.proofs.SqltypeValues.{if_taken, if_so, all_values, maybe_value, all_length}
+use Rattle.ur_sqltype.proofs.Fitting.{valued_fits}
 use Rattle.ur_sqltype.proofs.Kinding.{has_kind, column_at_place, table_there}
 
 -- what is set, taken apart
@@ -98,9 +100,10 @@ module _ (fits : KindedFits) where
       IfSome (slice_get (map (λ c. c.1) columns) s.0) (HasKind (kinds_within w) s.1) × IsSome (slice_get (map (λ c. c.1) columns) s.0)
   set_fits w bare columns p s e =
       let a = then_taken (set_of w p.1) (column_of p.0 columns) s e in
-      let m = map_taken (λ (x : Scalar). (a.0.0, x)) (of_kind a.0.1 w p.1) s a.2 in
+      let m = map_taken (λ (x : Scalar). (a.0.0, x)) (valued a.0.1 w p.1) s a.2 in
       let Fits : ℕ × Scalar → Type 0 = λ z. IfSome (slice_get (map (λ c. c.1) columns) z.0) (HasKind (kinds_within w) z.1) × IsSome (slice_get (map (λ c. c.1) columns) z.0) in
-      subst Fits m.2 (subst (λ o. IfSome o (HasKind (kinds_within w) m.0) × IsSome o) (sym (column_at_place p.0 columns a.0 a.1)) (has_kind fits w bare a.0.1 p.1 m.0 m.1, refl))
+      subst Fits m.2 (subst (λ o. IfSome o (HasKind (kinds_within w) m.0) × IsSome o) (sym (column_at_place p.0 columns a.0 a.1))
+      (valued_fits w bare a.0.1 p.1 m.0 m.1, refl))
 
   sets_fit : (w : Within) (bare : BareStand w) (columns : List (List ℕ × ColumnKind)) (ps : List (List ℕ × SqlExp)) (sets : List (ℕ × Scalar)) → all_of (set_at w columns) ps ≡ Some sets → SetsFit (kinds_within w) (map (λ c. c.1) columns) sets
   sets_fit w bare columns ps sets e =

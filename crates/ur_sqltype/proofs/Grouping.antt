@@ -59,6 +59,8 @@ reads_only group (s.Add' _ (one a end) _ (one b end)) h = let n = neither (outsi
 reads_only group (s.Sub' _ (one a end) _ (one b end)) h = let n = neither (outside_in group a) (outside_in group b) h in (reads_only group a n.0, reads_only group b n.1)
 reads_only group (s.Mul' _ (one a end) _ (one b end)) h = let n = neither (outside_in group a) (outside_in group b) h in (reads_only group a n.0, reads_only group b n.1)
 reads_only group (s.Neg' _ (one a end)) h = reads_only group a h
+reads_only group (s.Null k) h = tt
+reads_only group (s.Present' _ (one a end)) h = reads_only group a h
 
 -- ---- lists
 

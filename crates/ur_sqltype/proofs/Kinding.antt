@@ -1,7 +1,7 @@
 -- What stands for an expression of a query or change has its kind in the core.
-use Rattle.std.proofs.Common.{◌≡◌, ◌∙◌, refl, sym, ap, subst, ℕ, ◌+◌, true, true≢false, List, [], ◌∷◌, map, Option, Some, None, arith}
+use Rattle.std.proofs.Common.{◌≡◌, ◌∙◌, refl, sym, ap, subst, ℕ, ◌+◌, Bool, true, false, true≢false, List, [], ◌∷◌, map, Option, Some, None, arith}
 use Rattle.std.specs.Option.{is_some}
-use Rattle.std.specs.Prelude.{◌^◌, pos, nat_lt, option_map, IsSome, slice_get, bytes_eq}
+use Rattle.std.specs.Prelude.{◌^◌, pos, nat_lt, if◌then◌else◌, option_map, IsSome, slice_get, bytes_eq}
 use Rattle.std.proofs.lemmas.Option.{slice_get-map}
 use Rattle.ur_syntax.specs.declared.sql.SqlExp.{SqlExp}
 use Rattle.ur_syntax.specs.declared.sql.DeclName.{DeclName}
@@ -12,33 +12,37 @@ use Rattle.ur_values.specs.declared.schema.ColumnKind.{ColumnKind}
 use Rattle.ur_values.specs.declared.schema.ColumnKind.TheVariants as kind
 use Rattle.ur_values.specs.declared.schema.TableShape.{TableShape}
 use Rattle.ur_values.specs.declared.schema.Schema.{Schema}
+use Rattle.ur_values.specs.Kinds.{inside}
 use Rattle.ur_values.specs.Store.{kinds_of}
 use Rattle.ur_sql.specs.declared.scalar.Scalar.{Scalar}
 use Rattle.ur_sql.specs.declared.scalar.Scalar.TheVariants as s
 use Rattle.ur_sql.specs.declared.query.ColumnAt.{ColumnAt}
 use Rattle.ur_sql.specs.declared.query.Bound.{Bound}
 use Rattle.ur_sql.specs.declared.query.Bound.TheVariants as bound
-use Rattle.ur_sql.specs.Typing.{Kinds, column_kind, HasKind, HasSomeKind, BoundFits}
+use Rattle.ur_sql.specs.Typing.{Kinds, column_kind, HasKind, HasSomeKind, HasBasicKind, BoundFits}
 use Rattle.ur_sqltype.specs.declared.scope.Within.{Within}
 use Rattle.ur_sqltype.specs.Scope.{column_of}
-use Rattle.ur_sqltype.specs.Expression.{Kinded, kinded, same_kind}
+use Rattle.ur_sqltype.specs.Expression.{Kinded, kinded, same_kind, as_kind, is_optional}
 use Rattle.ur_sqltype.specs.Fits.{kinds_within, BareStand, KindedFits}
 use Rattle.ur_sqltype.specs.Tables.{shape_at, table_from, table_at}
-use Rattle.ur_sqltype.specs.Query.{if_kind, of_kind, of_some_kind, as_column, column_in, int_param, limited}
+use Rattle.ur_sqltype.specs.Query.{of_kind, of_some_kind, if_basic, of_basic_kind, as_column, column_in, int_param, limited}
+use Rattle.ur_sqltype.proofs.Fitting.{same_is}
 use Rattle.ur_sqltype.proofs.Lists.{some_is, none_is}
 use Rattle.ur_sqltype.proofs.Taken.{then_taken, map_taken}
 use Rattle.ur_sqltype.proofs.SqltypeValues.{if_taken, if_not, named_there}
 
-same_is : (j k : ColumnKind) → same_kind j k ≡ true → j ≡ k
-same_is kind.Int kind.Int e = refl
-same_is kind.Int kind.Str e = absurd (true≢false (sym e))
-same_is kind.Int kind.Bool e = absurd (true≢false (sym e))
-same_is kind.Str kind.Int e = absurd (true≢false (sym e))
-same_is kind.Str kind.Str e = refl
-same_is kind.Str kind.Bool e = absurd (true≢false (sym e))
-same_is kind.Bool kind.Int e = absurd (true≢false (sym e))
-same_is kind.Bool kind.Str e = absurd (true≢false (sym e))
-same_is kind.Bool kind.Bool e = refl
+-- a kind that is not optional has none inside
+plain_inside : (k : ColumnKind) → is_optional k ≡ false → inside k ≡ None
+plain_inside kind.Int e = refl
+plain_inside kind.Str e = refl
+plain_inside kind.Bool e = refl
+plain_inside kind.OptInt e = absurd (true≢false e)
+plain_inside kind.OptStr e = absurd (true≢false e)
+plain_inside kind.OptBool e = absurd (true≢false e)
+
+unless_taken : {A : Type 0} (b : Bool) (y x : A) → (if b then None else Some y) ≡ Some x → (b ≡ false) × (y ≡ x)
+unless_taken true y x e = none_is e
+unless_taken false y x e = (refl, some_is e)
 
 -- the column of a plain column is there
 column_some : (ks : Kinds) (x : Scalar) (at : ColumnAt) (k : ColumnKind) → as_column x ≡ Some at → HasKind ks x k → IsSome (column_kind ks at.item at.column)
@@ -48,7 +52,7 @@ column_some ks _ at k e h = none_is e
 module _ (fits : KindedFits) (w : Within) (bare : BareStand w) where
   pub has_kind : (k : ColumnKind) (e : SqlExp) (x : Scalar) → of_kind k w e ≡ Some x → HasKind (kinds_within w) x k
   has_kind k e x h =
-      let a = then_taken (if_kind k) (kinded w e.form) x h in
+      let a = then_taken (as_kind k) (kinded w e.form) x h in
       let t = if_taken (same_kind a.0.1 k) a.0.0 x a.2 in
       subst (λ z. HasKind (kinds_within w) z k) t.1 (subst (λ j. HasKind (kinds_within w) a.0.0 j) (same_is a.0.1 k t.0) (fits w bare e.form a.0.0 a.0.1 a.1))
 
@@ -56,6 +60,12 @@ module _ (fits : KindedFits) (w : Within) (bare : BareStand w) where
   some_kind e x h =
       let m = map_taken (λ (y : Kinded). y.0) (kinded w e.form) x h in
       (m.0.1, subst (λ z. HasKind (kinds_within w) z m.0.1) m.2 (fits w bare e.form m.0.0 m.0.1 m.1))
+
+  pub basic_kind : (e : SqlExp) (x : Scalar) → of_basic_kind w e ≡ Some x → HasBasicKind (kinds_within w) x
+  basic_kind e x h =
+      let a = then_taken if_basic (kinded w e.form) x h in
+      let t = unless_taken (is_optional a.0.1) a.0.0 x a.2 in
+      (a.0.1, plain_inside a.0.1 t.0, subst (λ z. HasKind (kinds_within w) z a.0.1) t.1 (fits w bare e.form a.0.0 a.0.1 a.1))
 
   pub column_there : (e : SqlExp) (at : ColumnAt) → column_in w e ≡ Some at → IsSome (column_kind (kinds_within w) at.item at.column)
   column_there e at h =
@@ -69,6 +79,9 @@ param_fits : (params : List ColumnKind) (n : ℕ) (k : ColumnKind) (b : Bound) �
 param_fits params n kind.Int b h e = subst (BoundFits params) (some_is e) h
 param_fits params n kind.Str b h e = none_is e
 param_fits params n kind.Bool b h e = none_is e
+param_fits params n kind.OptInt b h e = none_is e
+param_fits params n kind.OptStr b h e = none_is e
+param_fits params n kind.OptBool b h e = none_is e
 
 pub bound_fits : (w : Within) (l : Limit) (b : Bound) → limited w l ≡ Some b → BoundFits w.antiquotes b
 bound_fits w (limit.Int n) b e = let t = if_taken (nat_lt n (2 ^ 63)) (bound.Is (pos n)) b e in subst (BoundFits w.antiquotes) t.1 tt

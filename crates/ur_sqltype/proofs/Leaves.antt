@@ -16,7 +16,7 @@ use Rattle.ur_sql.specs.declared.scalar.Scalar.TheVariants as scalar
 use Rattle.ur_sqltype.specs.declared.scope.Within.{Within}
 use Rattle.ur_sqltype.specs.Scope.{column_of, column_from}
 use Rattle.ur_sqltype.specs.Expression.{Kinded, kinded, column_scalar, bare_scalar}
-use Rattle.ur_sqltype.specs.Faults.{TellsSql, unknown, misfit, three_kinds, no_column, no_bare, no_antiquote, too_great, no_text, HasFault}
+use Rattle.ur_sqltype.specs.Faults.{TellsSql, unknown, misfit, six_kinds, no_column, no_bare, no_antiquote, too_great, no_text, HasFault}
 use Rattle.ur_sqltype.proofs.Steps.{fault-here}
 
 pub bare-kinded : (w : Within) (a : List ℕ) (at : ℕ) (k : ColumnKind) (x : Scalar) → column_of a w.bare ≡ Some (at, k) → x ≡ scalar.Column 0 at → kinded w (form.Column a) ≡ Some (x, k)
@@ -37,8 +37,9 @@ pub antiquote-kinded : (w : Within) (n : ℕ) (k : ColumnKind) (x : Scalar) → 
 unfolding kinded
 antiquote-kinded w n k x h e = ap (λ o. option_map (λ j. (scalar.Param n, j)) o) h ∙ ap (λ z. Some (z, k)) (sym e)
 
-pub antiquote-fault : (w : Within) (n : ℕ) (r : Refusal) → slice_get w.antiquotes n ≡ None → TellsSql r (misfit (codes "no antiquote") three_kinds) → HasFault w (form.Anti n) r
-antiquote-fault w n r h t = fault-here {f = misfit (codes "no antiquote") three_kinds} (no_antiquote h) t
+pub antiquote-fault : (w : Within) (n : ℕ) (r : Refusal) → slice_get w.antiquotes n ≡ None → TellsSql r (misfit (codes "no antiquote") six_kinds) →
+    HasFault w (form.Anti n) r
+antiquote-fault w n r h t = fault-here {f = misfit (codes "no antiquote") six_kinds} (no_antiquote h) t
 
 within_limit : (n : ℕ) → n < 2 ^ 63 → nat_lt n (2 ^ 63) ≡ true
 within_limit n l = grind (arith, nat_tests, l)

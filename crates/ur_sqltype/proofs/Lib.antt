@@ -2,10 +2,10 @@ mod Equations
 mod Sizes
 mod Steps
 mod Leaves
-mod Faultless
-mod Fitting
+pub mod Faultless
+pub mod Fitting
 pub mod Exits
-pub mod Values
+pub mod SqltableValues
 pub mod Once
 mod Broken
 pub mod Lists

@@ -3,7 +3,7 @@ use Rattle.std.proofs.Common.{◌≡◌, ◌∙◌, sym, ap, ℕ, ◌+◌, ◌<�
 use Rattle.std.specs.List.{flat_map}
 use Rattle.std.proofs.Math.ListN.{drop_of_length-le}
 use Rattle.ur_sqltype.specs.Lists.{and_then, all_of, behind}
-use Rattle.ur_sqltype.proofs.Values.{split, behind_more}
+use Rattle.ur_sqltype.proofs.SqltableValues.{split, behind_more}
 
 pub some_is : {A : Type 0} {x y : A} → Some x ≡ Some y → x ≡ y
 some_is e = cc

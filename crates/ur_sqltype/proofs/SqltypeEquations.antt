@@ -1,11 +1,15 @@
--- The first column outside of GROUP BY in expressions with parts.
+-- The first column outside of GROUP BY in expressions with parts, and their kinds.
 use Rattle.std.proofs.Common.{◌≡◌, ◌∙◌, refl, sym, ap, ap₂, List, Option}
+use Rattle.std.specs.Prelude.{option_and_then}
 use denote.Hole.Carrier
+use Rattle.ur_values.specs.Kinds.{optional}
 use Rattle.ur_sql.specs.declared.scalar.Comparison.{Comparison}
-use Rattle.ur_sql.specs.declared.scalar.Scalar.{Scalar}
+use Rattle.ur_sql.specs.declared.scalar.Scalar.{Scalar, more_of-Scalar as one, end_of-Scalar as end}
 use Rattle.ur_sql.specs.declared.scalar.Scalar.TheBlock as block
 use Rattle.ur_sql.specs.declared.scalar.Scalar.TheVariants as s
 use Rattle.ur_sql.specs.declared.query.ColumnAt.{ColumnAt}
+use Rattle.ur_sql.specs.Kinds.{plain_kind, scalar_kind}
+use Rattle.ur_sql.specs.Typing.{Kinds}
 use Rattle.ur_sqltype.specs.Choice.{or_else}
 use Rattle.ur_sqltype.specs.Query.{outside_in}
 
@@ -42,7 +46,25 @@ module _ (group : List ColumnAt) where
   unfolding block.hidden-the_row-Scalar-0 Carrier.hidden
   outside_in-Neg a = refl
 
-pub ruleset outs = (outside_in-Or, outside_in-And, outside_in-Not, outside_in-Compare, outside_in-Add, outside_in-Sub, outside_in-Mul, outside_in-Neg)
+  pub outside_in-Present : (a : Scalar) → outside_in group (s.Present a) ≡ outside_in group a
+  unfolding block.hidden-the_row-Scalar-0 Carrier.hidden
+  outside_in-Present a = refl
+
+pub ruleset outs = (outside_in-Or, outside_in-And, outside_in-Not, outside_in-Compare, outside_in-Add, outside_in-Sub, outside_in-Mul, outside_in-Neg, outside_in-Present)
+
+-- ---- the kind at the head
+
+-- SOME has the optional kind of what stands inside
+pub scalar_kind-Present : (ks : Kinds) (a : Scalar) → scalar_kind ks (s.Present a) ≡ option_and_then optional (plain_kind ks a)
+unfolding block.hidden-the_row-Scalar-0 Carrier.hidden
+scalar_kind-Present ks a = refl
+
+pub scalar_kind-other : (ks : Kinds) (e : Scalar) → ((a : Scalar) → e ≡ s.Present a → ⊥) → plain_kind ks e ≡ scalar_kind ks e
+unfolding block.hidden-the_row-Scalar-0 Carrier.hidden
+scalar_kind-other ks (s.Present' u (one a end)) h = absurd (h a refl)
+scalar_kind-other ks e h = refl
+
+-- ---- expressions of two parts
 
 -- what is found in the parts is found in the whole
 pub of_two : (group : List ColumnAt) (e whole a b a' b' : Scalar) (x y r : Option ColumnAt) → outside_in group whole ≡ or_else (outside_in group a) (outside_in group b) → e ≡ whole → a' ≡ a → b' ≡ b →

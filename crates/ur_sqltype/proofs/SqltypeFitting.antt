@@ -30,12 +30,12 @@ use Rattle.ur_sqltype.specs.declared.scope.Source.{Source}
 use Rattle.ur_sqltype.specs.declared.scope.Within.{Within}
 use Rattle.ur_sqltype.specs.Fits.{kinds_of_source, kinds_within, BareStand, KindedFits}
 use Rattle.ur_sqltype.specs.Tables.{source_of, source_at, table_at}
-use Rattle.ur_sqltype.specs.Query.{of_kind, of_some_kind, ons_of, column_in, aggregated, is_descending, ordered, limited, name_of, Chosen, is_chosen, columns_from, alias_field, alias_fields, named_items, named_field, named_of, field_number, with_field, in_order_on, item_of, reads}
+use Rattle.ur_sqltype.specs.Query.{of_kind, of_some_kind, of_basic_kind, ons_of, column_in, aggregated, is_descending, ordered, limited, name_of, Chosen, is_chosen, columns_from, alias_field, alias_fields, named_items, named_field, named_of, field_number, with_field, in_order_on, item_of, reads}
 use Rattle.ur_sqltype.specs.SqltypeFits.{QueryOfFits}
 use Rattle.ur_sqltype.proofs.Lists.{some_is, none_is}
 use Rattle.ur_sqltype.proofs.Taken.{map_taken}
 use Rattle.ur_sqltype.proofs.SqltypeValues.{all_values, maybe_value, of_map, of_both, of_choice, stands_at, or_is}
-use Rattle.ur_sqltype.proofs.Kinding.{has_kind, some_kind, column_there, bound_fits, table_there}
+use Rattle.ur_sqltype.proofs.Kinding.{has_kind, some_kind, basic_kind, column_there, bound_fits, table_there}
 use Rattle.ur_sqltype.proofs.Grouping.{fields_read, order_reads}
 use Rattle.ur_sqltype.proofs.Whole.{FieldsTaken, fields_taken, query_taken}
 
@@ -78,8 +78,10 @@ module _ (fits : KindedFits) (w : Within) (bare : BareStand w) where
   aggregate_fits : (g : WrittenAggregate) (a : Aggregate) → aggregated w g ≡ Some a → AggregateFits (kinds_within w) a
   aggregate_fits written.Count a e = subst (AggregateFits (kinds_within w)) (some_is e) tt
   aggregate_fits (written.Sum x) a e = let m = map_taken aggregate.Sum (of_kind kind.Int w x) a e in subst (AggregateFits (kinds_within w)) m.2 (has_kind fits w bare kind.Int x m.0 m.1)
-  aggregate_fits (written.Min x) a e = let m = map_taken aggregate.Min (of_some_kind w x) a e in subst (AggregateFits (kinds_within w)) m.2 (some_kind fits w bare x m.0 m.1)
-  aggregate_fits (written.Max x) a e = let m = map_taken aggregate.Max (of_some_kind w x) a e in subst (AggregateFits (kinds_within w)) m.2 (some_kind fits w bare x m.0 m.1)
+  aggregate_fits (written.Min x) a e =
+      let m = map_taken aggregate.Min (of_basic_kind w x) a e in subst (AggregateFits (kinds_within w)) m.2 (basic_kind fits w bare x m.0 m.1)
+  aggregate_fits (written.Max x) a e =
+      let m = map_taken aggregate.Max (of_basic_kind w x) a e in subst (AggregateFits (kinds_within w)) m.2 (basic_kind fits w bare x m.0 m.1)
 
   named_fits : (names : List (List ℕ)) (s : Selected) (f : Field) → named_field names w s ≡ Some f → FieldFits (kinds_within w) f
   named_fits names (selected.Column x) f e = none_is e

@@ -18,6 +18,7 @@ use Rattle.ur_sql.specs.declared.change.Action.TheVariants as action
 use Rattle.ur_tree.specs.FieldNames.{capital}
 use Rattle.ur_sqltype.specs.declared.scope.Within.{Within}
 use Rattle.ur_sqltype.specs.Scope.{column_of}
+use Rattle.ur_sqltype.specs.Expression.{valued}
 use Rattle.ur_sqltype.specs.Tables.{table_at}
 use Rattle.ur_sqltype.specs.Lists.{all_of, maybe, repeated}
 use Rattle.ur_sqltype.specs.Choice.{if_none}
@@ -32,9 +33,9 @@ abbrev pub within_row : DeclName → ℕ × TableShape → List ColumnKind → W
 within_row x t antiquotes = record { sources = record { alias = capital x.name; table = t.0; columns = t.1.columns } ∷ []; bare = t.1.columns; antiquotes = antiquotes }
 
 abbrev pub set_of : Within → SqlExp → ℕ × ColumnKind → Option (ℕ × Scalar)
-set_of w e c = option_map (λ x. (c.0, x)) (of_kind c.1 w e)
+set_of w e c = option_map (λ x. (c.0, x)) (valued c.1 w e)
 
--- a column and its value, which has the column's type
+-- a column and its value, which has the column's type, or is NULL where the column is optional
 abbrev pub set_at : Within → List (List ℕ × ColumnKind) → List ℕ × SqlExp → Option (ℕ × Scalar)
 set_at w columns p = option_and_then (set_of w p.1) (column_of p.0 columns)
 

@@ -1,13 +1,15 @@
 -- Expressions of SQL: what they stand for, with their types.
-use Rattle.std.specs.Prelude.{ℕ, pos, ◌^◌, nat_lt, Bool, true, false, if◌then◌else◌, List, Option, Some, None, option_map, option_and_then, slice_get}
+use Rattle.std.specs.Prelude.{ℕ, pos, ◌^◌, nat_lt, Bool, true, false, not, ◌&&◌, ◌||◌, if◌then◌else◌, List, Option, Some, None, option_map, option_and_then, slice_get}
 use Rattle.std.specs.Str.{is_utf8}
 use Rattle.ur_syntax.specs.declared.sql.SqlBinary.{SqlBinary}
 use Rattle.ur_syntax.specs.declared.sql.SqlBinary.TheVariants as op
+use Rattle.ur_syntax.specs.declared.sql.SqlExp.{SqlExp}
 use Rattle.ur_syntax.specs.declared.sql.SqlForm.{SqlForm, end_of-SqlExp as alone, more_of-SqlExp as its}
 use Rattle.ur_syntax.specs.declared.sql.SqlForm.TheVariants as form
 use Rattle.ur_values.specs.declared.schema.ColumnKind.{ColumnKind}
 use Rattle.ur_values.specs.declared.schema.ColumnKind.TheVariants as kind
 use Rattle.ur_values.specs.declared.value.Value.TheVariants as value
+use Rattle.ur_values.specs.Kinds.{optional, is_ordered}
 use Rattle.ur_sql.specs.declared.scalar.Comparison.{Comparison}
 use Rattle.ur_sql.specs.declared.scalar.Comparison.TheVariants as compare
 use Rattle.ur_sql.specs.declared.scalar.Scalar.{Scalar}
@@ -27,16 +29,18 @@ abbrev pub same_kind : ColumnKind → ColumnKind → Bool
 same_kind kind.Int kind.Int = true
 same_kind kind.Str kind.Str = true
 same_kind kind.Bool kind.Bool = true
+same_kind kind.OptInt kind.OptInt = true
+same_kind kind.OptStr kind.OptStr = true
+same_kind kind.OptBool kind.OptBool = true
 same_kind _ _ = false
 
 -- ---- operators
 
--- equality stands on the three types, the order on int and string
+-- equality stands on all types, the order on int and string
 abbrev pub may_compare : Comparison → ColumnKind → Bool
 may_compare compare.Equal k = true
 may_compare compare.Unequal k = true
-may_compare c kind.Bool = false
-may_compare c k = true
+may_compare c k = is_ordered k
 
 abbrev pub operator_of : SqlBinary → Operator
 operator_of op.Or = does.Joins join.Or
@@ -84,6 +88,53 @@ on_both f x y = option_and_then (λ a. option_and_then (f a) y) x
 abbrev pub one_is : ColumnKind → (Scalar → Scalar) → Kinded → Option Kinded
 one_is wanted f x = if same_kind x.1 wanted then Some (f x.0, wanted) else None
 
+-- ---- NULL and options
+
+abbrev pub is_null : SqlForm → Bool
+is_null form.Null = true
+is_null _ = false
+
+abbrev pub is_optional : ColumnKind → Bool
+is_optional kind.OptInt = true
+is_optional kind.OptStr = true
+is_optional kind.OptBool = true
+is_optional _ = false
+
+-- `=` and `<>`, beside which NULL may stand
+abbrev pub is_equality : Comparison → Bool
+is_equality compare.Equal = true
+is_equality compare.Unequal = true
+is_equality _ = false
+
+-- an expression and the NULL of its kind, which stands first or last
+abbrev pub with_null : Comparison → Bool → Scalar → ColumnKind → Scalar
+with_null c true x k = scalar.Compare c (scalar.Null k) x
+with_null c false x k = scalar.Compare c x (scalar.Null k)
+
+-- an expression of an optional type is compared with NULL
+abbrev pub null_compared : Comparison → Bool → Kinded → Option Kinded
+null_compared c first x = if is_optional x.1 then Some (with_null c first x.0 x.1, kind.Bool) else None
+
+-- SOME of an int, a string or a bool
+abbrev pub some_scalar : Kinded → Option Kinded
+some_scalar x = option_map (λ k. (scalar.Present x.0, k)) (optional x.1)
+
+-- an equation or a disequation: where one side is NULL, the other side gives the type
+abbrev pub equated : Comparison → Bool → Bool → Option Kinded → Option Kinded → Option Kinded
+equated c true n x y = option_and_then (null_compared c true) y
+equated c false true x y = option_and_then (null_compared c false) x
+equated c false false x y = on_both (compared c) x y
+
+-- an operator, whether its sides are NULL, and what they stand for
+abbrev pub binary : Operator → Bool → Bool → Option Kinded → Option Kinded → Option Kinded
+binary (does.Joins j) m n x y = on_both (joined j) x y
+binary (does.Compares c) m n x y = if is_equality c then equated c m n x y else on_both (compared c) x y
+
+-- both sides have types of their own
+abbrev pub both_typed : Operator → Bool → Bool → Bool
+both_typed (does.Joins j) m n = true
+both_typed (does.Compares c) m n = not (is_equality c && (m || n))
+
 -- ---- expressions without parts
 
 abbrev pub column_scalar : ℕ × (ℕ × ColumnKind) → Kinded
@@ -104,7 +155,7 @@ abbrev pub truth_form : Bool → SqlForm
 truth_form true = form.True
 truth_form false = form.False
 
--- What an expression stands for, and its type; none where its rule is broken. NULL and what speaks of it have no type.
+-- What an expression stands for, and its type; none where its rule is broken. NULL has a type from what stands beside it alone.
 unfoldable pub kinded : Within → SqlForm → Option Kinded
 kinded w (form.Int n) = int_scalar n
 kinded w (form.Str s) = text_scalar s
@@ -114,9 +165,18 @@ kinded w form.Null = None
 kinded w (form.Qualified q a) = option_map column_scalar (column_at q a w.sources)
 kinded w (form.Column a) = option_map bare_scalar (column_of a w.bare)
 kinded w (form.Anti n) = option_map (λ k. (scalar.Param n, k)) (slice_get w.antiquotes n)
-kinded w (form.Binary' o _ (its p a alone) _ (its q b alone)) = on_both (operated (operator_of o)) (kinded w a) (kinded w b)
+kinded w (form.Binary' o _ (its p a alone) _ (its q b alone)) = binary (operator_of o) (is_null a) (is_null b) (kinded w a) (kinded w b)
 kinded w (form.Not' _ (its p a alone)) = option_and_then (one_is kind.Bool scalar.Not) (kinded w a)
 kinded w (form.Negative' _ (its p a alone)) = option_and_then (one_is kind.Int scalar.Neg) (kinded w a)
-kinded w (form.IsNull' _ a) = None
-kinded w (form.IsNotNull' _ a) = None
-kinded w (form.Some' _ a) = None
+kinded w (form.IsNull' _ (its p a alone)) = option_and_then (null_compared compare.Equal false) (kinded w a)
+kinded w (form.IsNotNull' _ (its p a alone)) = option_and_then (null_compared compare.Unequal false) (kinded w a)
+kinded w (form.Some' _ (its p a alone)) = option_and_then some_scalar (kinded w a)
+
+-- ---- values of columns
+
+abbrev pub as_kind : ColumnKind → Kinded → Option Scalar
+as_kind k x = if same_kind x.1 k then Some x.0 else None
+
+-- what INSERT and SET may give to a column of this type
+abbrev pub valued : ColumnKind → Within → SqlExp → Option Scalar
+valued k w e = if is_null e.form then (if is_optional k then Some (scalar.Null k) else None) else option_and_then (as_kind k) (kinded w e.form)

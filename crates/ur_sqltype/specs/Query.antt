@@ -37,20 +37,25 @@ use Rattle.ur_sqltype.specs.declared.scope.Within.{Within}
 use Rattle.ur_sqltype.specs.Scope.{named_at}
 use Rattle.ur_sqltype.specs.Tables.{sources_of}
 use Rattle.ur_sqltype.specs.Choice.{if_none, or_else, first_in}
-use Rattle.ur_sqltype.specs.Expression.{Kinded, same_kind, kinded}
+use Rattle.ur_sqltype.specs.Expression.{Kinded, kinded, as_kind, is_optional}
 use Rattle.ur_sqltype.specs.Lists.{all_of, maybe, repeated}
 
 -- ---- parts, each there exactly where it has types
 
-abbrev pub if_kind : ColumnKind → Kinded → Option Scalar
-if_kind wanted x = if same_kind x.1 wanted then Some x.0 else None
-
 -- an expression of that type, or of any
 abbrev pub of_kind : ColumnKind → Within → SqlExp → Option Scalar
-of_kind k w e = option_and_then (if_kind k) (kinded w e.form)
+of_kind k w e = option_and_then (as_kind k) (kinded w e.form)
 
 abbrev pub of_some_kind : Within → SqlExp → Option Scalar
 of_some_kind w e = option_map (λ x. x.0) (kinded w e.form)
+
+-- where it is no option
+abbrev pub if_basic : Kinded → Option Scalar
+if_basic x = if is_optional x.1 then None else Some x.0
+
+-- an expression of type int, string or bool
+abbrev pub of_basic_kind : Within → SqlExp → Option Scalar
+of_basic_kind w e = option_and_then if_basic (kinded w e.form)
 
 -- the conditions behind ON, in order
 abbrev pub on_of : FromItem → List SqlExp
@@ -67,11 +72,12 @@ as_column _ = None
 abbrev pub column_in : Within → SqlExp → Option ColumnAt
 column_in w e = option_and_then as_column (of_some_kind w e)
 
+-- SUM is of ints, MIN and MAX are of ints, strings and bools
 abbrev pub aggregated : Within → WrittenAggregate → Option Aggregate
 aggregated w written.Count = Some aggregate.Count
 aggregated w (written.Sum e) = option_map aggregate.Sum (of_kind kind.Int w e)
-aggregated w (written.Min e) = option_map aggregate.Min (of_some_kind w e)
-aggregated w (written.Max e) = option_map aggregate.Max (of_some_kind w e)
+aggregated w (written.Min e) = option_map aggregate.Min (of_basic_kind w e)
+aggregated w (written.Max e) = option_map aggregate.Max (of_basic_kind w e)
 
 abbrev pub is_descending : Direction → Bool
 is_descending direction.Ascending = false
@@ -210,6 +216,8 @@ outside_in group (scalar.Add' _ (one a end) _ (one b end)) = or_else (outside_in
 outside_in group (scalar.Sub' _ (one a end) _ (one b end)) = or_else (outside_in group a) (outside_in group b)
 outside_in group (scalar.Mul' _ (one a end) _ (one b end)) = or_else (outside_in group a) (outside_in group b)
 outside_in group (scalar.Neg' _ (one a end)) = outside_in group a
+outside_in group (scalar.Null k) = None
+outside_in group (scalar.Present' _ (one a end)) = outside_in group a
 
 -- the same of a field, outside of an aggregate
 abbrev pub field_outside : List ColumnAt → Field → Option ColumnAt

@@ -1,6 +1,6 @@
 -- What a query, a change or a table without a type breaks, as it is told.
 use Rattle.std.specs.Fmt.{decimal}
-use Rattle.std.specs.Prelude.{◌≡◌, ◌≢◌, ◌≤◌, ◌^◌, ℕ, if◌then◌else◌, List, [], ◌∷◌, codes, map, length, Contains, Option, Some, None, nat_eq, bytes_eq, slice_get, slice_index_or}
+use Rattle.std.specs.Prelude.{◌≡◌, ◌≢◌, ◌≤◌, ◌^◌, ℕ, true, if◌then◌else◌, List, [], ◌∷◌, codes, map, length, Contains, Option, Some, None, nat_eq, bytes_eq, slice_get, slice_index_or}
 use Rattle.std.specs.List.{list_any}
 use Rattle.ur_base.specs.Stopping.{Says}
 use Rattle.ur_base.specs.declared.refusal.Refusal.{Refusal}
@@ -34,8 +34,8 @@ use Rattle.ur_sqltype.specs.declared.scope.Source.{Source}
 use Rattle.ur_sqltype.specs.declared.scope.Within.{Within}
 use Rattle.ur_sqltype.specs.Scope.{column_of}
 use Rattle.ur_sqltype.specs.Tables.{table_at, sources_of}
-use Rattle.ur_sqltype.specs.Faults.{HasFault, Misfits, kind_text, three_kinds}
-use Rattle.ur_sqltype.specs.Expression.{kinded}
+use Rattle.ur_sqltype.specs.Faults.{HasFault, Misfits, MisfitsColumn, kind_text, three_kinds, six_kinds}
+use Rattle.ur_sqltype.specs.Expression.{kinded, is_optional}
 use Rattle.ur_sqltype.specs.Lists.{all_of, repeated}
 use Rattle.ur_sqltype.specs.Antiquotes.{found_kind}
 use Rattle.ur_sqltype.specs.Query.{as_column, column_in, selected_columns, same_column, all_fields, field_number, items_of, reads, stated, outside, query_of}
@@ -46,10 +46,10 @@ use Rattle.ur_sqltype.specs.SqltableFaults.{Names, normal_text}
 abbrev pub table_text : DeclName → List ℕ
 table_text x = name_text x.«module» x.name
 
--- what is found of an antiquote is none of the three types
+-- what is found of an antiquote is none of the six types
 pub record IsOther (datatypes : Names) (n : Normal) (r : Refusal) : Type 0 where
   pub none : found_kind n ≡ None
-  pub told : Says r 12 (normal_text datatypes n) three_kinds
+  pub told : Says r 12 (normal_text datatypes n) six_kinds
 
 pub record AntiquoteIsOther (datatypes : Names) (found : List Normal) (r : Refusal) : Type 0 where
   pub type : Normal
@@ -112,11 +112,16 @@ pub data ColumnBreaks (w : Within) (e : SqlExp) (r : Refusal) : Type 0 where
   column_faulty : HasFault w e.form r → ColumnBreaks w e r
   column_other : IsNoColumn w e r → ColumnBreaks w e r
 
+-- what MIN or MAX is of has a fault, or is an option
+pub data BasicBreaks (w : Within) (e : SqlExp) (r : Refusal) : Type 0 where
+  basic_faulty : HasFault w e.form r → BasicBreaks w e r
+  is_option : (x : Scalar) (k : ColumnKind) → kinded w e.form ≡ Some (x, k) → is_optional k ≡ true → Says r 12 (kind_text k) three_kinds → BasicBreaks w e r
+
 -- what an aggregate is of has a fault, or another type
 pub data AggregateBreaks (w : Within) (r : Refusal) : WrittenAggregate → Type 0 where
   no_sum : (e : SqlExp) → Misfits w e.form kind.Int r → AggregateBreaks w r (written.Sum e)
-  least : (e : SqlExp) → HasFault w e.form r → AggregateBreaks w r (written.Min e)
-  greatest : (e : SqlExp) → HasFault w e.form r → AggregateBreaks w r (written.Max e)
+  least : (e : SqlExp) → BasicBreaks w e r → AggregateBreaks w r (written.Min e)
+  greatest : (e : SqlExp) → BasicBreaks w e r → AggregateBreaks w r (written.Max e)
 
 -- the same of what is selected with an AS name
 pub data ItemBreaks (w : Within) (r : Refusal) : Selected → Type 0 where
@@ -197,10 +202,10 @@ pub data ConditionOf (antiquotes : List ColumnKind) (t : ℕ × TableShape) : Sq
   of_update : (p : Span) (x : DeclName) (assignments : List Assignment) (e : SqlExp) → ConditionOf antiquotes t (change.Update p x assignments (Some e)) (within_row x t antiquotes) e
   of_delete : (p : Span) (x : DeclName) (e : SqlExp) → ConditionOf antiquotes t (change.Delete p x (Some e)) (within_row x t antiquotes) e
 
--- a column that is not there, or whose value has another type
+-- a column that is not there, or whose value is none of the column
 pub data SetBreaks (w : Within) (columns : List (List ℕ × ColumnKind)) (p : List ℕ × SqlExp) (r : Refusal) : Type 0 where
   column_unknown : column_of p.0 columns ≡ None → Says r 7 p.0 [] → SetBreaks w columns p r
-  value_misfits : (at : ℕ) (k : ColumnKind) → column_of p.0 columns ≡ Some (at, k) → Misfits w p.1.form k r → SetBreaks w columns p r
+  value_misfits : (at : ℕ) (k : ColumnKind) → column_of p.0 columns ≡ Some (at, k) → MisfitsColumn w p.1.form k r → SetBreaks w columns p r
 
 -- one of the columns that are set breaks its rule, or one is set twice
 pub data SetsBreak (w : Within) (columns : List (List ℕ × ColumnKind)) (ps : List (List ℕ × SqlExp)) (r : Refusal) : Type 0 where

@@ -4,7 +4,7 @@ ghost use Rattle.ur_base.specs.Stopping.{IfRefused};
 ghost use Rattle.ur_sqltype.specs.Antiquotes.{AreKinds, found_kind};
 ghost use Rattle.ur_sqltype.specs.SqltypeFaults.{AntiquoteIsOther, IsOther};
 
-use crate::{misfit, normal_text, nowhere, type_kind};
+use crate::{column_type_kind, misfit, normal_text, nowhere};
 use std::alloc::Global;
 use ur_base::{List, Stop, Text};
 use ur_rows::Normal;
@@ -15,7 +15,7 @@ fn kind_of(of: &Normal) -> Option<ColumnKind>
     ensures { result ≡ found_kind of.now }
 {
     match of {
-        Normal::Type(t) => type_kind(t),
+        Normal::Type(t) => column_type_kind(t),
         Normal::Name(_) => None,
         Normal::Row(_) => None,
         Normal::Fn(_, _) => None,
@@ -30,7 +30,12 @@ fn found_kind(alloc: Global, of: &Normal, datatypes: &[Text]) -> Result<ColumnKi
         Some(kind) => Ok(kind),
         None => {
             let text = normal_text(alloc, of, datatypes)?;
-            Err(Stop::Refused(misfit(alloc, nowhere(), text.as_slice(), b"int, string or bool")?))
+            Err(Stop::Refused(misfit(
+                alloc,
+                nowhere(),
+                text.as_slice(),
+                b"int, string, bool or an option of these",
+            )?))
         }
     }
 }

@@ -5,7 +5,7 @@ ghost use Rattle.ur_base.specs.Stopping.{IfRefused};
 ghost use Rattle.ur_syntax.specs.declared.sql.SqlForm.TheVariants as form;
 ghost use Rattle.ur_sql.specs.declared.scalar.Scalar.TheVariants as scalar;
 ghost use Rattle.ur_sqltype.specs.Expression.{kinded, truth_form};
-ghost use Rattle.ur_sqltype.specs.Faults.{HasFault, TellsSql, misfit, three_kinds};
+ghost use Rattle.ur_sqltype.specs.Faults.{HasFault, TellsSql, misfit, six_kinds};
 
 use crate::columns::{capital, column_at, column_of, place};
 use crate::refusals::{misfit, name_text, number_text, unknown};
@@ -143,7 +143,7 @@ pub fn antiquote(
     ensures refused { IfRefused result (HasFault within.now (form.Anti number)) }
 {
     match within.antiquotes.get(number as usize) {
-        None => Err(Stop::Refused(of_three(alloc, span, b"no antiquote")?)),
+        None => Err(Stop::Refused(of_six(alloc, span, b"no antiquote")?)),
         Some(kind) => {
             let made = Boxed::new(alloc, Scalar::Param(number))?;
             Ok((made, *kind))
@@ -152,8 +152,13 @@ pub fn antiquote(
 }
 
 /// What was found, where a type of SQL is wanted.
-pub fn of_three(alloc: Global, span: Span, found: &[u8]) -> Result<Refusal, Memory>
-    ensures { IfOk result (λ r. TellsSql r (misfit found.now three_kinds)) }
+fn of_six(alloc: Global, span: Span, found: &[u8]) -> Result<Refusal, Memory>
+    ensures { IfOk result (λ r. TellsSql r (misfit found.now six_kinds)) }
 {
-    misfit(alloc, span, found, b"int, string or bool")
+    misfit(
+        alloc,
+        span,
+        found,
+        b"int, string, bool or an option of these",
+    )
 }

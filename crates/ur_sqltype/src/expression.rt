@@ -1,16 +1,19 @@
 //! What expressions of SQL stand for, with their types.
-ghost use Rattle.std.specs.Prelude.{◌≡◌, IfOk, Some};
+ghost use Rattle.std.specs.Prelude.{◌≡◌, true, IfOk, Some, option_and_then};
 ghost use Rattle.ur_base.specs.Stopping.{IfRefused};
 ghost use Rattle.ur_syntax.specs.declared.sql.SqlBinary.{SqlBinary as Written};
+ghost use Rattle.ur_syntax.specs.declared.sql.SqlForm.{SqlForm as Form};
 ghost use Rattle.ur_syntax.specs.declared.sql.SqlForm.TheVariants as form;
 ghost use Rattle.ur_sqltype.specs.declared.operators.Operator.TheVariants as does;
-ghost use Rattle.ur_sqltype.specs.Expression.{kinded, on_both, joined, compared, operator_of};
-ghost use Rattle.ur_sqltype.specs.Faults.{HasFault, Misfits, IsLater};
+ghost use Rattle.ur_sqltype.specs.Expression.{kinded, on_both, joined, compared, operator_of, is_null, null_compared, binary, both_typed};
+ghost use Rattle.ur_sqltype.specs.Faults.{HasFault, Misfits, TestsNull};
 
-use crate::constants::{antiquote, bare, int, of_three, qualified, string, truth};
-use crate::made::{compared, joined, negated, negative};
-use crate::operators::{Join, Operator, may_compare, operator_of, same_kind, side_kind};
-use crate::refusals::{kind_text, misfit};
+use crate::constants::{antiquote, bare, int, qualified, string, truth};
+use crate::made::{compared, joined, negated, negative, present, with_null};
+use crate::operators::{
+    Join, Operator, is_equality, is_optional, may_compare, operator_of, same_kind, side_kind,
+};
+use crate::refusals::{kind_text, misfit, no_option};
 use crate::scope::Within;
 use std::alloc::Global;
 use ur_base::{Boxed, Stop};
@@ -32,14 +35,18 @@ pub fn exp_kind(
         SqlForm::Binary(o, a, b) => operation(alloc, within, o, a.get(), b.get()),
         SqlForm::Not(a) => negation(alloc, within, a.get()),
         SqlForm::Negative(a) => minus(alloc, within, a.get()),
-        SqlForm::IsNull(_) => later(alloc, within, e, b"IS NULL"),
-        SqlForm::IsNotNull(_) => later(alloc, within, e, b"IS NOT NULL"),
+        SqlForm::IsNull(a) => {
+            null_compared(alloc, within, Comparison::Equal, false, false, a.get())
+        },
+        SqlForm::IsNotNull(a) => {
+            null_compared(alloc, within, Comparison::Unequal, false, false, a.get())
+        },
         SqlForm::Int(n) => int(alloc, within, e.span, *n),
         SqlForm::Str(text) => string(alloc, within, e.span, text),
         SqlForm::True => Ok(truth(alloc, within, true)?),
         SqlForm::False => Ok(truth(alloc, within, false)?),
-        SqlForm::Null => later(alloc, within, e, b"NULL"),
-        SqlForm::Some(_) => later(alloc, within, e, b"SOME"),
+        SqlForm::Null => Err(Stop::Refused(misfit(alloc, e.span, b"NULL", b"annotation")?)),
+        SqlForm::Some(a) => some(alloc, within, a.get()),
         SqlForm::Column(name) => bare(alloc, within, e.span, name),
         SqlForm::Qualified(q, name) => qualified(alloc, within, e.span, q, name),
         SqlForm::Anti(number) => antiquote(alloc, within, e.span, *number),
@@ -77,7 +84,7 @@ fn operation(
 {
     match operator_of(o) {
         Operator::Joins(join) => joining(alloc, within, join, a, b),
-        Operator::Compares(c) => comparing(alloc, within, c, a, b),
+        Operator::Compares(c) => equating(alloc, within, c, a, b),
     }
 }
 
@@ -99,6 +106,30 @@ fn joining(
     Ok((made, kind))
 }
 
+/// A comparison, which may have NULL at one side where it is an equation or a disequation.
+#[cycle(kinding)]
+fn equating(
+    alloc: Global,
+    within: &Within,
+    c: Comparison,
+    a: &SqlExp,
+    b: &SqlExp,
+) -> Result<(Boxed<Scalar>, ColumnKind), Stop>
+    ensures kinded { IfOk result (λ r. binary (does.Compares c) (is_null a.now.form) (is_null b.now.form) (kinded within.now a.now.form) (kinded within.now b.now.form) ≡ Some r) }
+    ensures refused { IfRefused result (λ r. (o : Written) → operator_of o ≡ does.Compares c → HasFault within.now (form.Binary o a.now b.now) r) }
+{
+    if !is_equality(c) {
+        return comparing(alloc, within, c, a, b);
+    }
+    if is_null(&a.form) {
+        return null_compared(alloc, within, c, true, true, b);
+    }
+    if is_null(&b.form) {
+        return null_compared(alloc, within, c, false, true, a);
+    }
+    comparing(alloc, within, c, a, b)
+}
+
 #[cycle(kinding)]
 fn comparing(
     alloc: Global,
@@ -108,7 +139,7 @@ fn comparing(
     b: &SqlExp,
 ) -> Result<(Boxed<Scalar>, ColumnKind), Stop>
     ensures kinded { IfOk result (λ r. on_both (compared c) (kinded within.now a.now.form) (kinded within.now b.now.form) ≡ Some r) }
-    ensures refused { IfRefused result (λ r. (o : Written) → operator_of o ≡ does.Compares c → HasFault within.now (form.Binary o a.now b.now) r) }
+    ensures refused { IfRefused result (λ r. (o : Written) → operator_of o ≡ does.Compares c → both_typed (does.Compares c) (is_null a.now.form) (is_null b.now.form) ≡ true → HasFault within.now (form.Binary o a.now b.now) r) }
 {
     let (left, kind) = exp_kind(alloc, within, a)?;
     if !may_compare(c, kind) {
@@ -139,16 +170,52 @@ fn minus(alloc: Global, within: &Within, a: &SqlExp) -> Result<(Boxed<Scalar>, C
     Ok((made, ColumnKind::Int))
 }
 
-/// A form that no type of SQL has yet.
-fn later(
+/// An expression of an optional type compared with NULL, which stands first or last, and is written beside it or not.
+#[cycle(kinding)]
+fn null_compared(
     alloc: Global,
     within: &Within,
-    e: &SqlExp,
-    word: &[u8],
+    c: Comparison,
+    first: bool,
+    beside: bool,
+    a: &SqlExp,
 ) -> Result<(Boxed<Scalar>, ColumnKind), Stop>
-    ensures kinded { IfOk result (λ o. IsLater e.now.form word.now → kinded within.now e.now.form ≡ Some o) }
-    ensures refused { IfRefused result (λ r. IsLater e.now.form word.now → HasFault within.now e.now.form r) }
+    ensures kinded { IfOk result (λ r. option_and_then (null_compared c first) (kinded within.now a.now.form) ≡ Some r) }
+    ensures refused { IfRefused result (λ r. (e : Form) → TestsNull c first beside e a.now.form → HasFault within.now e r) }
 {
-    let _within = within;
-    Err(Stop::Refused(of_three(alloc, e.span, word)?))
+    let (of, kind) = exp_kind(alloc, within, a)?;
+    if !is_optional(kind) {
+        return Err(Stop::Refused(no_option(alloc, a.span, beside, kind)?));
+    }
+    let made = with_null(alloc, c, first, of, kind)?;
+    Ok((made, ColumnKind::Bool))
+}
+
+/// SOME of an expression.
+#[cycle(kinding)]
+fn some(alloc: Global, within: &Within, a: &SqlExp) -> Result<(Boxed<Scalar>, ColumnKind), Stop>
+    ensures kinded { IfOk result (λ r. kinded within.now (form.Some a.now) ≡ Some r) }
+    ensures refused { IfRefused result (HasFault within.now (form.Some a.now)) }
+{
+    let (of, kind) = exp_kind(alloc, within, a)?;
+    match kind.optional() {
+        None => {
+            let refusal = misfit(alloc, a.span, kind_text(kind), b"int, string or bool")?;
+            Err(Stop::Refused(refusal))
+        }
+        Some(optional) => {
+            let made = present(alloc, of)?;
+            Ok((made, optional))
+        }
+    }
+}
+
+/// Whether an expression is NULL.
+pub fn is_null(e: &SqlForm) -> bool
+    ensures { result ≡ is_null e.now }
+{
+    match e {
+        SqlForm::Null => true,
+        _ => false,
+    }
 }

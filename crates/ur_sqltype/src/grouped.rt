@@ -53,6 +53,8 @@ fn outside_in(by: &Scalar, group: &[ColumnAt]) -> Option<ColumnAt>
         Scalar::Sub(a, b) => or_else(outside_in(a.get(), group), outside_in(b.get(), group)),
         Scalar::Mul(a, b) => or_else(outside_in(a.get(), group), outside_in(b.get(), group)),
         Scalar::Neg(a) => outside_in(a.get(), group),
+        Scalar::Null(_) => None,
+        Scalar::Present(a) => outside_in(a.get(), group),
     }
 }
 

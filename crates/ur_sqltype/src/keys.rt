@@ -1,13 +1,15 @@
 //! The keys of a table.
-ghost use Rattle.std.specs.Prelude.{◌≡◌, Some, [], nat_eq, IfOk, All};
+ghost use Rattle.std.specs.Prelude.{◌≡◌, Some, [], true, nat_eq, IfOk, All, Contains, MatchOption};
 ghost use Rattle.std.specs.List.{list_any, IsDistinct};
 ghost use Rattle.ur_base.specs.Stopping.{IfRefused, Says};
+ghost use Rattle.ur_sqltype.specs.Expression.{is_optional};
+ghost use Rattle.ur_sqltype.specs.Faults.{kind_text};
 ghost use Rattle.ur_sqltype.specs.Lists.{all_of, repeated};
-ghost use Rattle.ur_sqltype.specs.Table.{key_of, place_of, name_at, has_primary};
-ghost use Rattle.ur_sqltype.specs.SqltableFaults.{KeyBreaks, KeysBreak, NoPlace};
+ghost use Rattle.ur_sqltype.specs.Table.{key_of, place_of, name_at, kind_at, HasNoOption, has_primary};
+ghost use Rattle.ur_sqltype.specs.SqltableFaults.{KeyBreaks, KeysBreak, NoPlace, plain_of};
 
 use crate::sqltable_columns::nowhere;
-use crate::{column_of, place, unknown};
+use crate::{column_of, is_optional, kind_text, misfit, place, unknown};
 use std::alloc::Global;
 use ur_base::{List, Memory, Refusal, Span, Stop, Text};
 use ur_values::ColumnKind;
@@ -72,16 +74,64 @@ fn has_place(places: &[u32], place: u32) -> bool
     false
 }
 
-/// A key, no column of which stands twice.
+/// A key, no column of which stands twice or is optional.
 fn key_of(alloc: Global, columns: &[(Text, ColumnKind)], key: &SqlKey) -> Result<List<u32>, Stop>
     ensures places { IfOk result (λ ps. key_of columns.now key.now ≡ Some ps) }
     ensures once { IfOk result (IsDistinct nat_eq) }
+    ensures plain { IfOk result (HasNoOption columns.now) }
     ensures refused { IfRefused result (KeyBreaks columns.now key.now.columns) }
 {
     let places = places_of(alloc, columns, key.columns.as_slice())?;
     match repeated_place(places.as_slice()) {
-        None => Ok(places),
+        None => match optional_place(columns, places.as_slice()) {
+            None => Ok(places),
+            Some(at) => Err(Stop::Refused(optional_at(alloc, columns, at)?)),
+        },
         Some(at) => Err(Stop::Refused(twice_at(alloc, columns, at)?)),
+    }
+}
+
+/// The first of these places whose column is optional.
+fn optional_place(columns: &[(Text, ColumnKind)], places: &[u32]) -> Option<u32>
+    ensures { MatchOption result (HasNoOption columns.now places.now) (λ n. Contains places.now n × (is_optional (kind_at columns.now n) ≡ true)) }
+{
+    for place in places {
+        if is_optional(kind_at(columns, *place)) {
+            return Some(*place);
+        }
+    }
+    None
+}
+
+/// The type of the column at a place.
+fn kind_at(columns: &[(Text, ColumnKind)], at: u32) -> ColumnKind
+    ensures { result ≡ kind_at columns.now at }
+{
+    match columns.get(at as usize) {
+        None => ColumnKind::Int,
+        Some(column) => column.1,
+    }
+}
+
+/// The type of an optional column in a key, and the one inside.
+fn optional_at(alloc: Global, columns: &[(Text, ColumnKind)], at: u32) -> Result<Refusal, Memory>
+    ensures { IfOk result (λ r. Says r 12 (kind_text (kind_at columns.now at)) (kind_text (plain_of (kind_at columns.now at)))) }
+{
+    let kind = kind_at(columns, at);
+    let left = kind_text(kind);
+    misfit(alloc, nowhere(), left, kind_text(plain_of(kind)))
+}
+
+fn plain_of(kind: ColumnKind) -> ColumnKind
+    ensures { result ≡ plain_of kind }
+{
+    match kind {
+        ColumnKind::OptInt => ColumnKind::Int,
+        ColumnKind::OptStr => ColumnKind::Str,
+        ColumnKind::OptBool => ColumnKind::Bool,
+        ColumnKind::Int => kind,
+        ColumnKind::Str => kind,
+        ColumnKind::Bool => kind,
     }
 }
 
@@ -108,7 +158,7 @@ pub fn twice(alloc: Global, span: Span, name: &[u8]) -> Result<Refusal, Memory>
     })
 }
 
-/// The keys, each of which has no column twice.
+/// The keys, each of which has no column twice and no optional one.
 pub fn keys_of(
     alloc: Global,
     columns: &[(Text, ColumnKind)],
@@ -116,6 +166,7 @@ pub fn keys_of(
 ) -> Result<List<List<u32>>, Stop>
     ensures places { IfOk result (λ ks. all_of (key_of columns.now) keys.now ≡ Some ks) }
     ensures once { IfOk result (All (IsDistinct nat_eq)) }
+    ensures plain { IfOk result (All (HasNoOption columns.now)) }
     ensures refused { IfRefused result (KeysBreak columns.now keys.now) }
 {
     let mut made = List::new(alloc);

@@ -1,5 +1,5 @@
 ghost use Rattle.ur_sqltype.specs.Faults.{FaultyIsNone};
-ghost use Rattle.ur_sqltype.specs.Fits.{KindedFits};
+ghost use Rattle.ur_sqltype.specs.Fits.{KindedFits, ValuedFits};
 
 /// What has a fault stands for nothing.
 pub fn faulty_is_none()
@@ -9,4 +9,9 @@ pub fn faulty_is_none()
 /// What an expression stands for has its kind in the core.
 pub fn kinded_fits()
     ensures { KindedFits }
+{}
+
+/// What is given to a column has its kind in the core.
+pub fn valued_fits()
+    ensures { ValuedFits }
 {}

@@ -21,19 +21,22 @@ mod sqltype_columns;
 mod sqltype_law;
 mod table;
 mod tables;
+mod values;
 
 pub use antiquotes::kinds_found;
 pub use columns::{capital, column_at, column_of, place};
 pub use expression::{exp_kind, of_kind};
 pub use grouped::outside;
 pub use keys::{SqlKey, twice};
-pub use law::{faulty_is_none, kinded_fits};
-pub use operators::{Join, Operator, same_kind};
-pub use parts::{any_scalar, column_in, condition_of, scalar_of, unboxed, with_scalar};
+pub use law::{faulty_is_none, kinded_fits, valued_fits};
+pub use operators::{Join, Operator, is_optional, same_kind};
+pub use parts::{
+    any_scalar, basic_scalar, column_in, condition_of, scalar_of, unboxed, with_scalar,
+};
 pub use refusals::{kind_text, misfit, name_text, number_text, unknown};
-pub use row::query_row;
+pub use row::{kind_type, query_row};
 pub use scope::{Source, Within};
-pub use sqltable_columns::{nowhere, type_kind};
+pub use sqltable_columns::{column_type_kind, nowhere, type_kind};
 pub use sqltable_law::broken_is_none;
 pub use sqltype_columns::{column_text, has_column, name_at};
 pub use sqltype_law::{
@@ -42,3 +45,4 @@ pub use sqltype_law::{
 };
 pub use table::{normal_text, table_shape};
 pub use tables::{copy_columns, no_table, sources_of, table_at};
+pub use values::value_of_kind;

@@ -1,6 +1,6 @@
 //! Operators and kinds.
 ghost use Rattle.std.specs.Prelude.{◌≡◌};
-ghost use Rattle.ur_sqltype.specs.Expression.{same_kind, may_compare, side_kind, operator_of};
+ghost use Rattle.ur_sqltype.specs.Expression.{same_kind, may_compare, side_kind, operator_of, is_optional, is_equality};
 
 use ur_sql::Comparison;
 use ur_syntax::SqlBinary;
@@ -39,6 +39,18 @@ pub fn same_kind(a: ColumnKind, b: ColumnKind) -> bool
             ColumnKind::Bool => true,
             _ => false,
         },
+        ColumnKind::OptInt => match b {
+            ColumnKind::OptInt => true,
+            _ => false,
+        },
+        ColumnKind::OptStr => match b {
+            ColumnKind::OptStr => true,
+            _ => false,
+        },
+        ColumnKind::OptBool => match b {
+            ColumnKind::OptBool => true,
+            _ => false,
+        },
     }
 }
 
@@ -49,10 +61,29 @@ pub fn may_compare(c: Comparison, kind: ColumnKind) -> bool
     match c {
         Comparison::Equal => true,
         Comparison::Unequal => true,
-        Comparison::Less => !same_kind(kind, ColumnKind::Bool),
-        Comparison::LessEqual => !same_kind(kind, ColumnKind::Bool),
-        Comparison::Greater => !same_kind(kind, ColumnKind::Bool),
-        Comparison::GreaterEqual => !same_kind(kind, ColumnKind::Bool),
+        _ => kind.is_ordered(),
+    }
+}
+
+/// Whether NULL may stand beside a comparison.
+pub fn is_equality(c: Comparison) -> bool
+    ensures { result ≡ is_equality c }
+{
+    match c {
+        Comparison::Equal => true,
+        Comparison::Unequal => true,
+        _ => false,
+    }
+}
+
+pub fn is_optional(kind: ColumnKind) -> bool
+    ensures { result ≡ is_optional kind }
+{
+    match kind {
+        ColumnKind::OptInt => true,
+        ColumnKind::OptStr => true,
+        ColumnKind::OptBool => true,
+        _ => false,
     }
 }
 

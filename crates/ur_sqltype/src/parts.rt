@@ -5,10 +5,10 @@ ghost use Rattle.ur_values.specs.declared.schema.ColumnKind.TheVariants as kind;
 ghost use Rattle.ur_syntax.specs.declared.sql.SqlExp.{SqlExp as Written};
 ghost use Rattle.ur_sqltype.specs.Faults.{HasFault, Misfits};
 ghost use Rattle.ur_sqltype.specs.Lists.{maybe};
-ghost use Rattle.ur_sqltype.specs.Query.{of_kind, of_some_kind, as_column, column_in};
-ghost use Rattle.ur_sqltype.specs.SqltypeFaults.{ColumnBreaks};
+ghost use Rattle.ur_sqltype.specs.Query.{of_kind, of_some_kind, of_basic_kind, as_column, column_in};
+ghost use Rattle.ur_sqltype.specs.SqltypeFaults.{BasicBreaks, ColumnBreaks};
 
-use crate::{Within, exp_kind, misfit, of_kind};
+use crate::{Within, exp_kind, is_optional, kind_text, misfit, of_kind};
 use std::alloc::Global;
 use ur_base::{Boxed, List, Memory, Span, Stop};
 use ur_sql::{ColumnAt, Scalar};
@@ -35,6 +35,18 @@ pub fn any_scalar(alloc: Global, within: &Within, e: &SqlExp) -> Result<Boxed<Sc
     ensures refused { IfRefused result (HasFault within.now e.now.form) }
 {
     let (scalar, _) = exp_kind(alloc, within, e)?;
+    Ok(scalar)
+}
+
+/// The expression, of type int, string or bool.
+pub fn basic_scalar(alloc: Global, within: &Within, e: &SqlExp) -> Result<Boxed<Scalar>, Stop>
+    ensures typed { IfOk result (λ x. of_basic_kind within.now e.now ≡ Some x) }
+    ensures refused { IfRefused result (BasicBreaks within.now e.now) }
+{
+    let (scalar, kind) = exp_kind(alloc, within, e)?;
+    if is_optional(kind) {
+        return Err(Stop::Refused(misfit(alloc, e.span, kind_text(kind), b"int, string or bool")?));
+    }
     Ok(scalar)
 }
 

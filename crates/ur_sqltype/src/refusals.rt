@@ -2,7 +2,7 @@
 ghost use Rattle.std.specs.Prelude.{◌≡◌, [], Some, IfOk};
 ghost use Rattle.std.specs.Fmt.{decimal};
 ghost use Rattle.ur_syntax.specs.Names.{name_text};
-ghost use Rattle.ur_sqltype.specs.Faults.{TellsSql, unknown, misfit, kind_text};
+ghost use Rattle.ur_sqltype.specs.Faults.{TellsSql, unknown, misfit, kind_text, null_misfit};
 
 use std::alloc::Global;
 use ur_base::{List, Memory, Refusal, Span, Text};
@@ -43,7 +43,25 @@ pub fn kind_text(kind: ColumnKind) -> &'static [u8]
         ColumnKind::Int => b"int",
         ColumnKind::Str => b"string",
         ColumnKind::Bool => b"bool",
+        ColumnKind::OptInt => b"option (int)",
+        ColumnKind::OptStr => b"option (string)",
+        ColumnKind::OptBool => b"option (bool)",
     }
+}
+
+/// An expression of no optional type, beside NULL or under IS NULL or IS NOT NULL.
+pub fn no_option(
+    alloc: Global,
+    span: Span,
+    beside: bool,
+    kind: ColumnKind,
+) -> Result<Refusal, Memory>
+    ensures { IfOk result (λ r. TellsSql r (null_misfit beside kind)) }
+{
+    if beside {
+        return misfit(alloc, span, b"NULL", kind_text(kind));
+    }
+    misfit(alloc, span, kind_text(kind), b"an option")
 }
 
 /// How a name with a qualifier is written.

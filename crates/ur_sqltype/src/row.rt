@@ -1,9 +1,10 @@
 //! The row of a query's answer.
 ghost use Rattle.std.specs.Prelude.{◌≡◌, [], map, slice_get, slice_index_or, IfOk};
 ghost use Rattle.ur_rows.specs.Made as made;
+ghost use Rattle.ur_sql.specs.Kinds.{constant_kind, plain_kind, scalar_kind};
 ghost use Rattle.ur_sql.specs.Typing.{column_kind, kinds_in};
 ghost use Rattle.ur_tree.specs.Scalars.{kind_type};
-ghost use Rattle.ur_tree.specs.QueryRow.{scalar_kind, constant_kind, kind_if_any, named_part, columns_row, aggregate_type, field_part, fields_row, query_row};
+ghost use Rattle.ur_tree.specs.QueryRow.{kind_if_any, named_part, columns_row, aggregate_type, field_part, fields_row, query_row};
 
 use std::alloc::Global;
 use ur_base::{List, Memory, Name, Text};
@@ -17,22 +18,26 @@ fn record_type(row: List<Part>) -> NormalType
     NormalType::Record(row)
 }
 
-fn kind_if_any(alloc: Global, kind: Option<ColumnKind>) -> NormalType
-    ensures { result ≡ kind_if_any kind }
+fn kind_if_any(alloc: Global, kind: Option<ColumnKind>) -> Result<NormalType, Memory>
+    ensures { IfOk result (λ t. t ≡ kind_if_any kind) }
 {
     match kind {
-        None => record_type(List::new(alloc)),
-        Some(kind) => kind_type(kind),
+        None => Ok(record_type(List::new(alloc))),
+        Some(kind) => kind_type(alloc, kind),
     }
 }
 
-fn kind_type(kind: ColumnKind) -> NormalType
-    ensures { result ≡ kind_type kind }
+/// The type of a kind.
+pub fn kind_type(alloc: Global, kind: ColumnKind) -> Result<NormalType, Memory>
+    ensures { IfOk result (λ t. t ≡ kind_type kind) }
 {
     match kind {
-        ColumnKind::Int => NormalType::Int,
-        ColumnKind::Str => NormalType::Str,
-        ColumnKind::Bool => NormalType::Bool,
+        ColumnKind::Int => Ok(NormalType::Int),
+        ColumnKind::Str => Ok(NormalType::Str),
+        ColumnKind::Bool => Ok(NormalType::Bool),
+        ColumnKind::OptInt => option_of(alloc, NormalType::Int),
+        ColumnKind::OptStr => option_of(alloc, NormalType::Str),
+        ColumnKind::OptBool => option_of(alloc, NormalType::Bool),
     }
 }
 
@@ -75,9 +80,9 @@ fn param_kind(core: &Query, number: u32) -> Option<ColumnKind>
     }
 }
 
-/// The kind of an expression's values, by what stands at its head.
-fn scalar_kind(core: &Query, by: &Scalar) -> Option<ColumnKind>
-    ensures { result ≡ scalar_kind (kinds_in core.now) by.now }
+/// The kind of an expression that is no SOME, by what stands at its head.
+fn plain_kind(core: &Query, by: &Scalar) -> Option<ColumnKind>
+    ensures { result ≡ plain_kind (kinds_in core.now) by.now }
 {
     match by {
         Scalar::Constant(value) => constant_kind(value),
@@ -91,6 +96,21 @@ fn scalar_kind(core: &Query, by: &Scalar) -> Option<ColumnKind>
         Scalar::Sub(_, _) => Some(ColumnKind::Int),
         Scalar::Mul(_, _) => Some(ColumnKind::Int),
         Scalar::Neg(_) => Some(ColumnKind::Int),
+        Scalar::Null(kind) => Some(*kind),
+        Scalar::Present(_) => None,
+    }
+}
+
+/// The kind of an expression's values.
+fn scalar_kind(core: &Query, by: &Scalar) -> Option<ColumnKind>
+    ensures { result ≡ scalar_kind (kinds_in core.now) by.now }
+{
+    match by {
+        Scalar::Present(a) => match plain_kind(core, a.get()) {
+            None => None,
+            Some(of) => of.optional(),
+        },
+        _ => plain_kind(core, by),
     }
 }
 
@@ -122,7 +142,7 @@ fn column_part(
 ) -> Result<Part, Memory>
     ensures { IfOk result (λ p. p ≡ named_part names.now name (kind_if_any (column_kind (kinds_in core.now) at.item at.column))) }
 {
-    let of = kind_if_any(alloc, column_kind(core, at.item, at.column));
+    let of = kind_if_any(alloc, column_kind(core, at.item, at.column))?;
     named_part(alloc, names, name, of)
 }
 
@@ -172,8 +192,8 @@ fn aggregate_type(alloc: Global, core: &Query, of: &Aggregate) -> Result<NormalT
     match of {
         Aggregate::Count => Ok(NormalType::Int),
         Aggregate::Sum(_) => Ok(NormalType::Int),
-        Aggregate::Min(by) => option_of(alloc, kind_if_any(alloc, scalar_kind(core, by))),
-        Aggregate::Max(by) => option_of(alloc, kind_if_any(alloc, scalar_kind(core, by))),
+        Aggregate::Min(by) => option_of(alloc, kind_if_any(alloc, scalar_kind(core, by))?),
+        Aggregate::Max(by) => option_of(alloc, kind_if_any(alloc, scalar_kind(core, by))?),
     }
 }
 
@@ -190,7 +210,7 @@ fn field_part(alloc: Global, names: &[Text], core: &Query, field: &Field) -> Res
                 alloc,
                 names,
                 *name,
-                kind_if_any(alloc, scalar_kind(core, by)),
+                kind_if_any(alloc, scalar_kind(core, by))?,
             )
         }
         Field::Over(name, of) => {

@@ -1,11 +1,12 @@
 //! The columns of a table.
-ghost use Rattle.std.specs.Prelude.{◌≡◌, Some, None, map, bytes_eq, IfOk, MatchOption};
+ghost use Rattle.std.specs.Prelude.{◌≡◌, Some, None, map, bytes_eq, option_and_then, IfOk, MatchOption};
 ghost use Rattle.std.specs.List.{list_any};
 ghost use Rattle.ur_base.specs.Stopping.{IfRefused, Says};
+ghost use Rattle.ur_values.specs.Kinds.{optional};
 ghost use Rattle.ur_rows.specs.Made.{field};
-ghost use Rattle.ur_sqltype.specs.Faults.{three_kinds};
+ghost use Rattle.ur_sqltype.specs.Faults.{six_kinds};
 ghost use Rattle.ur_sqltype.specs.Lists.{all_of, repeated};
-ghost use Rattle.ur_sqltype.specs.Table.{type_kind, column_from};
+ghost use Rattle.ur_sqltype.specs.Table.{type_kind, column_type_kind, column_from};
 ghost use Rattle.ur_sqltype.specs.SqltableFaults.{NoColumn, IsNoColumn};
 
 use crate::misfit;
@@ -24,7 +25,7 @@ pub fn nowhere() -> Span {
     }
 }
 
-/// The type of a column, if it is one.
+/// The type int, string or bool, if it is one.
 pub fn type_kind(of: &NormalType) -> Option<ColumnKind>
     ensures { result ≡ type_kind of.now }
 {
@@ -36,13 +37,38 @@ pub fn type_kind(of: &NormalType) -> Option<ColumnKind>
     }
 }
 
-fn of_three(alloc: Global, found: &[u8]) -> Result<Refusal, Memory>
-    ensures { IfOk result (λ r. Says r 12 found.now three_kinds) }
+/// The type of a column or an antiquote, if it is one.
+pub fn column_type_kind(of: &NormalType) -> Option<ColumnKind>
+    ensures { result ≡ column_type_kind of.now }
 {
-    misfit(alloc, nowhere(), found, b"int, string or bool")
+    match of {
+        NormalType::Opt(t) => option_kind(t.get()),
+        _ => type_kind(of),
+    }
 }
 
-/// A column, of a field with a literal name and one of the three types.
+/// The type of options of this one.
+fn option_kind(of: &NormalType) -> Option<ColumnKind>
+    ensures { result ≡ option_and_then optional (type_kind of.now) }
+{
+    match type_kind(of) {
+        None => None,
+        Some(kind) => kind.optional(),
+    }
+}
+
+fn of_six(alloc: Global, found: &[u8]) -> Result<Refusal, Memory>
+    ensures { IfOk result (λ r. Says r 12 found.now six_kinds) }
+{
+    misfit(
+        alloc,
+        nowhere(),
+        found,
+        b"int, string, bool or an option of these",
+    )
+}
+
+/// A column, of a field with a literal name and a type of columns.
 fn field_column(
     alloc: Global,
     l: &Label,
@@ -53,11 +79,11 @@ fn field_column(
     ensures refused { IfRefused result (IsNoColumn datatypes.now (field l.now of.now)) }
 {
     match l {
-        Label::Variable(_) => Err(Stop::Refused(of_three(alloc, b"row")?)),
-        Label::Literal(name) => match type_kind(of) {
+        Label::Variable(_) => Err(Stop::Refused(of_six(alloc, b"row")?)),
+        Label::Literal(name) => match column_type_kind(of) {
             None => {
                 let text = type_text(alloc, datatypes, of)?;
-                Err(Stop::Refused(of_three(alloc, text.as_slice())?))
+                Err(Stop::Refused(of_six(alloc, text.as_slice())?))
             }
             Some(kind) => {
                 let name = List::from_slice(alloc, name.as_slice())?;
@@ -74,8 +100,8 @@ fn column_from(alloc: Global, part: &Part, datatypes: &[Text]) -> Result<(Text, 
 {
     match part {
         Part::Field(l, t) => field_column(alloc, l, t.get(), datatypes),
-        Part::Piece(_) => Err(Stop::Refused(of_three(alloc, b"row")?)),
-        Part::Mapped(_, _) => Err(Stop::Refused(of_three(alloc, b"row")?)),
+        Part::Piece(_) => Err(Stop::Refused(of_six(alloc, b"row")?)),
+        Part::Mapped(_, _) => Err(Stop::Refused(of_six(alloc, b"row")?)),
     }
 }
 

@@ -4,7 +4,7 @@ use Rattle.std.proofs.Common.{◌≡◌, refl, ap, sym, ◌∙◌, ℕ, zero, su
 use Rattle.std.specs.Prelude.{if◌then◌else◌, nat_lt}
 use Rattle.std.proofs.Math.ListN.{drop_of_length-le}
 use Rattle.ur_sql.specs.declared.query.Field.{Field}
-use Rattle.ur_sqltype.proofs.Values.{split}
+use Rattle.ur_sqltype.proofs.SqltableValues.{split}
 use Rattle.ur_sqltype.specs.Query.{field_number, with_field, in_order_on}
 
 take-more : {A : Type 0} (r : List A) (i : ℕ) (x : A) (s : List A) → i < length r → x ≡ get_or r i x → take i r ++ (x ∷ s) ≡ take (suc i) r ++ s

@@ -1,5 +1,4 @@
 mod Inserting
-mod Apart
 mod Untyped
 mod Steps
 mod Pairs

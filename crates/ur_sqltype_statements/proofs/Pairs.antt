@@ -4,7 +4,7 @@ use Rattle.std.specs.Prelude.{Contains, slice_index_or}
 use Rattle.std.proofs.Math.ListN.{drop_of_length-le}
 use Rattle.ur_syntax.specs.declared.sql.SqlExp.{SqlExp}
 use Rattle.ur_sqltype.specs.Lists.{all_of, behind}
-use Rattle.ur_sqltype.proofs.Values.{split}
+use Rattle.ur_sqltype.proofs.SqltableValues.{split}
 use Rattle.ur_sqltype.specs.Change.{paired}
 use Rattle.ur_sqltype.proofs.Lists.{behind-all}
 

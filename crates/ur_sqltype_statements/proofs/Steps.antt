@@ -12,11 +12,12 @@ use Rattle.ur_sql.specs.declared.change.Action.TheVariants as action
 use Rattle.ur_sqltype.specs.declared.scope.Within.{Within}
 use Rattle.ur_sqltype.specs.Scope.{column_of}
 use Rattle.ur_sqltype.specs.Lists.{and_then, all_of, behind}
-use Rattle.ur_sqltype.specs.Query.{of_kind}
+use Rattle.ur_sqltype.specs.Expression.{valued}
 use Rattle.ur_sqltype.specs.Change.{within_insert, set_of, set_at, paired, assigned, sets_of, inserting, complete_of, insert_of, condition_of, updating, update_of}
 
 pub set-found : (w : Within) (columns : List (List ℕ × ColumnKind)) (name : List ℕ) (value : SqlExp) (sets : List (ℕ × Scalar)) (found : ℕ) (k : ColumnKind) (at : ℕ) (x : Scalar) (more : List (ℕ × Scalar)) →
-    column_of name columns ≡ Some (found, k) → at ≡ found → of_kind k w value ≡ Some x → more ≡ sets ++ (at, x) ∷ [] → behind sets (all_of (set_at w columns) ((name, value) ∷ [])) ≡ Some more
+    column_of name columns ≡ Some (found, k) → at ≡ found → valued k w value ≡ Some x → more ≡ sets ++ (at, x) ∷ [] → behind sets
+    (all_of (set_at w columns) ((name, value) ∷ [])) ≡ Some more
 set-found w columns name value sets found k at x more h e t m =
     ap (λ o. behind sets (and_then (option_and_then (set_of w value) o) (Some []))) h ∙ ap (λ o. behind sets (and_then (option_map (λ (y : Scalar). (found, y)) o) (Some []))) t ∙
     ap (λ n. Some (sets ++ (n, x) ∷ [])) (sym e) ∙ ap Some (sym m)

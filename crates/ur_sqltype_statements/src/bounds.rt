@@ -36,8 +36,7 @@ fn param(alloc: Global, within: &Within, span: Span, n: u32) -> Result<Bound, St
         None => Err(Stop::Refused(misfit(alloc, span, b"no antiquote", b"int")?)),
         Some(kind) => match *kind {
             ColumnKind::Int => Ok(Bound::Param(n)),
-            ColumnKind::Str => Err(Stop::Refused(misfit(alloc, span, b"string", b"int")?)),
-            ColumnKind::Bool => Err(Stop::Refused(misfit(alloc, span, b"bool", b"int")?)),
+            _ => Err(Stop::Refused(misfit(alloc, span, kind_text(*kind), b"int")?)),
         },
     }
 }

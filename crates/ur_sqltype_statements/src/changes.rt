@@ -11,7 +11,7 @@ use std::alloc::Global;
 use ur_base::{Boxed, List, Memory, Refusal, Span, Stop, Text};
 use ur_sql::Scalar;
 use ur_sqltype::{
-    Source, Within, capital, column_of, copy_columns, name_at, place, scalar_of, twice, unknown,
+    Source, Within, capital, column_of, copy_columns, name_at, place, twice, unknown, value_of_kind,
 };
 use ur_syntax::{Assignment, DeclName, SqlExp};
 use ur_values::{ColumnKind, TableShape};
@@ -80,7 +80,7 @@ fn pushed(
     Ok(sets)
 }
 
-/// One more column with its value, which has the column's type.
+/// One more column with its value, which has the column's type, or is NULL where the column is optional.
 fn with_set(
     alloc: Global,
     within: &Within,
@@ -96,7 +96,7 @@ fn with_set(
         None => Err(Stop::Refused(unknown(alloc, value.span, name.as_slice())?)),
         Some((at, kind)) => {
             let at = place(at)?;
-            let scalar = scalar_of(alloc, within, value, kind)?;
+            let scalar = value_of_kind(alloc, within, value, kind)?;
             let more = pushed(sets, at, scalar)?;
             Ok(more)
         }

@@ -12,7 +12,7 @@ use crate::columns::{chosen_of, is_chosen};
 use std::alloc::Global;
 use ur_base::{Boxed, List, Memory, Name, Refusal, Span, Stop, Text};
 use ur_sql::{Aggregate, ColumnAt, Field, Scalar};
-use ur_sqltype::{Source, Within, any_scalar, place, scalar_of, twice};
+use ur_sqltype::{Source, Within, any_scalar, basic_scalar, place, scalar_of, twice};
 use ur_syntax::{Aggregate as WrittenAggregate, Selected, Selection, SqlExp, SqlQuery};
 use ur_values::ColumnKind;
 
@@ -150,7 +150,7 @@ fn greatest(of: Boxed<Scalar>) -> Aggregate
     Aggregate::Max(of.into_inner())
 }
 
-/// An aggregate: SUM is of ints, MIN and MAX are of any type.
+/// An aggregate: SUM is of ints, MIN and MAX are of ints, strings and bools.
 fn aggregated(alloc: Global, within: &Within, of: &WrittenAggregate) -> Result<Aggregate, Stop>
     ensures typed { IfOk result (λ g. aggregated within.now of.now ≡ Some g) }
     ensures refused { IfRefused result (λ r. AggregateBreaks within.now r of.now) }
@@ -162,11 +162,11 @@ fn aggregated(alloc: Global, within: &Within, of: &WrittenAggregate) -> Result<A
             Ok(sum(scalar))
         }
         WrittenAggregate::Min(e) => {
-            let scalar = any_scalar(alloc, within, e)?;
+            let scalar = basic_scalar(alloc, within, e)?;
             Ok(least(scalar))
         }
         WrittenAggregate::Max(e) => {
-            let scalar = any_scalar(alloc, within, e)?;
+            let scalar = basic_scalar(alloc, within, e)?;
             Ok(greatest(scalar))
         }
     }

@@ -70,6 +70,11 @@ pub minus_zero : unsegment kind.Int (codes "-0") ≡ None
 unfolding percent_decode is_utf8 chars utf8_encode int_of digits
 minus_zero = refl
 
+-- no segment is an option
+pub no_option : unsegment kind.OptInt (codes "1") ≡ None
+unfolding percent_decode is_utf8 chars utf8_encode
+no_option = refl
+
 -- ---- the notes
 
 abbrev pub list_route : Route

@@ -10,7 +10,7 @@ use Rattle.ur_values.specs.declared.schema.ColumnKind.TheVariants as kind
 use Rattle.ur_values.specs.declared.value.Value.{Value}
 use Rattle.ur_values.specs.declared.value.Value.TheVariants as v
 use Rattle.ur_values.specs.declared.value.Call.{Call}
-use Rattle.ur_values.specs.Store.{FitsKind}
+use Rattle.ur_values.specs.Store.{FitsBasic}
 use Rattle.ur_tags.specs.declared.routes.Param.{Param}
 use Rattle.ur_tags.specs.declared.routes.Param.TheVariants as param
 use Rattle.ur_tags.specs.declared.routes.Route.{Route}
@@ -24,7 +24,7 @@ use Rattle.ur_tags.proofs.ReadBack.{has_text, decode_back}
 -- ---- one argument
 
 -- an argument of this kind is a segment after a slash
-argument_segment : (x : Value) (kind : ColumnKind) → FitsKind x kind → argument_path x ≡ 47 ∷ segment x
+argument_segment : (x : Value) (kind : ColumnKind) → FitsBasic x kind → argument_path x ≡ 47 ∷ segment x
 argument_segment (v.Int z) kind h = refl
 argument_segment (v.Str t) kind h = refl
 argument_segment (v.Bool b) kind h = refl
@@ -41,7 +41,7 @@ record IsArgument (x : Value) (kind : Option ColumnKind) : Type 0 where
   pub read : (texts : List (List ℕ)) → argument kind (onto kind x texts text_of) ≡ Some (x, texts)
   pub decoded : elim kind as (λ k. Type 0) [ None ↦ Unit {0} | Some k ↦ decode (segment x) ≡ Some (text_of x) ]
 
-fits_argument : (x : Value) (kind : ColumnKind) → FitsKind x kind → IsArgument x (Some kind)
+fits_argument : (x : Value) (kind : ColumnKind) → FitsBasic x kind → IsArgument x (Some kind)
 fits_argument x kind h = record {
   in_path = argument_segment x kind h;
   read = λ texts. ap (option_map (λ (y : Value). (y, texts))) (has_text x kind h).back;

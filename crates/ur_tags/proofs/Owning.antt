@@ -83,6 +83,9 @@ value_given : (k : ColumnKind) (text : List ℕ) (x : Value) → IsUtf8 text →
 value_given kind.Int text x u e = int_value (int_of text) x e (int_given text)
 value_given kind.Str text x u e = text_value (string_of text) x e (λ t f. string_given text t f u)
 value_given kind.Bool text x u e = bool_value (bool_of text) x e
+value_given kind.OptInt text x u e = cc
+value_given kind.OptStr text x u e = cc
+value_given kind.OptBool text x u e = cc
 
 decoded : (bytes text : List ℕ) → decode bytes ≡ Some text → IsUtf8 text
 decoded [] text e = cc

@@ -15,7 +15,7 @@ use Rattle.ur_values.specs.declared.schema.ColumnKind.TheVariants as kind
 use Rattle.ur_values.specs.declared.value.Value.{Value}
 use Rattle.ur_values.specs.declared.value.Value.TheVariants as v
 use Rattle.ur_values.specs.Values.{IsInt}
-use Rattle.ur_values.specs.Store.{FitsKind}
+use Rattle.ur_values.specs.Store.{FitsBasic}
 use Rattle.ur_tags.specs.Segments.{is_marked, is_int, int_of, string_text, string_of, after_mark, bool_text, bool_of, text_of, value_of, segment, decode, unsegment}
 use Rattle.ur_tags.proofs.Bytes.{decode-encode}
 use Rattle.ur_tags.proofs.Ints.{is_int-mag, is_int-fits, int_of_value}
@@ -99,7 +99,7 @@ pub record HasText (x : Value) (kind : ColumnKind) : Type 0 where
   pub long : 0 < length (text_of x)
   pub back : value_of kind (text_of x) ≡ Some x
 
-pub has_text : (x : Value) (kind : ColumnKind) → FitsKind x kind → HasText x kind
+pub has_text : (x : Value) (kind : ColumnKind) → FitsBasic x kind → HasText x kind
 has_text (v.Int z) kind.Int h =
     let i = is_int_from z h in
     record { utf8 = IsUtf8-from_ascii _ (IsAscii-signed z (is_int-mag z i)); long = int_is_long z i; back = ap (option_map v.Int) (int_back z i) }
@@ -108,8 +108,8 @@ has_text (v.Bool b) kind.Bool h = record { utf8 = bool_is_text b; long = bool_is
 has_text _ _ h = elim h [ ]
 
 -- the segment of a value decodes to its text
-pub decode_back : (x : Value) (kind : ColumnKind) → FitsKind x kind → decode (segment x) ≡ Some (text_of x)
+pub decode_back : (x : Value) (kind : ColumnKind) → FitsBasic x kind → decode (segment x) ≡ Some (text_of x)
 decode_back x kind h = let text = has_text x kind h in decode-encode (text_of x) text.utf8 text.long
 
-pub segment_back : (x : Value) (kind : ColumnKind) → FitsKind x kind → unsegment kind (segment x) ≡ Some x
+pub segment_back : (x : Value) (kind : ColumnKind) → FitsBasic x kind → unsegment kind (segment x) ≡ Some x
 segment_back x kind h = ap (option_and_then (value_of kind)) (decode_back x kind h) ∙ (has_text x kind h).back

@@ -10,7 +10,7 @@ use Rattle.ur_values.specs.declared.schema.ColumnKind.{ColumnKind}
 use Rattle.ur_values.specs.declared.schema.ColumnKind.TheVariants as kind
 use Rattle.ur_values.specs.declared.value.Value.{Value}
 use Rattle.ur_values.specs.declared.value.Value.TheVariants as v
-use Rattle.ur_values.specs.Store.{FitsKind}
+use Rattle.ur_values.specs.Store.{FitsBasic}
 
 -- ---- percent-encoding (RFC 3986, section 2.1)
 
@@ -80,11 +80,12 @@ int_of text =
 abbrev pub bool_of : List ℕ → Option Bool
 bool_of text = if bytes_eq text (codes "True") then Some true else (if bytes_eq text (codes "False") then Some false else None)
 
--- the value of the kind whose text this is
+-- the value of the kind whose text this is; no text is a value of an optional kind
 abbrev pub value_of : ColumnKind → List ℕ → Option Value
 value_of kind.Int text = option_map v.Int (int_of text)
 value_of kind.Str text = option_map v.Str (string_of text)
 value_of kind.Bool text = option_map v.Bool (bool_of text)
+value_of _ text = None
 
 -- the value of the kind that the segment is read as
 abbrev pub unsegment : ColumnKind → List ℕ → Option Value
@@ -92,4 +93,4 @@ unsegment kind bytes = option_and_then (value_of kind) (decode bytes)
 
 -- each int of 64 bits, text and bool is read from its segment
 abbrev pub SegmentsBack : Type 0
-SegmentsBack = (x : Value) (kind : ColumnKind) → FitsKind x kind → unsegment kind (segment x) ≡ Some x
+SegmentsBack = (x : Value) (kind : ColumnKind) → FitsBasic x kind → unsegment kind (segment x) ≡ Some x

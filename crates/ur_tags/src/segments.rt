@@ -1,7 +1,7 @@
 //! Values as segments of paths.
 ghost use Rattle.std.specs.Prelude.{◌≡◌, ◌++◌, IfOk, IfSome, OnOk, option_map};
 ghost use Rattle.std.specs.Str.{is_utf8};
-ghost use Rattle.ur_values.specs.Atom.{IsAtomic};
+ghost use Rattle.ur_values.specs.Atom.{IsBasic};
 ghost use Rattle.ur_values.specs.Store.{FitsKind};
 ghost use Rattle.ur_tags.specs.Segments as segments;
 ghost use Rattle.ur_tags.specs.Segments.{SegmentsBack};
@@ -16,7 +16,7 @@ use ur_values::{ColumnKind, Value};
 /// `_`, and a string that begins with `_` or `.` gets one `_` in front. All bytes but the unreserved characters of
 /// RFC 3986, section 2.3, are percent-encoded.
 pub fn segment(alloc: Global, value: &Value) -> Result<Text, Memory>
-    requires { IsAtomic value.now }
+    requires { IsBasic value.now }
     ensures { IfOk result (λ text. text ≡ segments.segment value.now) }
 {
     let mut text = List::new(alloc);
@@ -141,7 +141,7 @@ pub(crate) fn is_text(bytes: &[u8]) -> bool
     }
 }
 
-/// The value of this kind whose text this is.
+/// The value of this kind whose text this is. No text is a value of an optional kind.
 pub fn value_of(alloc: Global, kind: ColumnKind, text: &[u8]) -> Result<Option<Value>, Memory>
     ensures { IfOk result (λ value. value ≡ segments.value_of kind text.now) }
 {
@@ -152,6 +152,7 @@ pub fn value_of(alloc: Global, kind: ColumnKind, text: &[u8]) -> Result<Option<V
             Some(string) => Ok(Some(Value::Str(List::from_slice(alloc, string)?))),
             None => Ok(None),
         },
+        ColumnKind::OptInt | ColumnKind::OptStr | ColumnKind::OptBool => Ok(None),
     }
 }
 

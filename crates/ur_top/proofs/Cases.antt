@@ -41,7 +41,8 @@ if_serving None P h = tt
 if_serving (Some s) P h = h s refl
 
 -- of files that are told, and a project that is served
-pub of_served : (o : Option Files) (r : Option Reading) (Q : Files → Serving → Type 0) → ((files : Files) (s : Serving) → o ≡ Some files → serving r ≡ Some s → Q files s)
+pub of_served : (o : Option Files) (r : Option Reading) (Q : Files → Serving → Type 0) →
+    ((files : Files) (s : Serving) → o ≡ Some files → serving r ≡ Some s → Q files s)
     → WhereTold o (λ files. ForServing r (Q files))
 of_served o r Q h = told_is o (λ files. ForServing r (Q files)) (λ files t. if_serving (serving r) (Q files) (λ s is. h files s t is))
 
@@ -50,7 +51,8 @@ project_in None = []
 project_in (Some s) = s.project
 
 -- what holds of the source holds of the project that is served
-pub at_served : (o : Option Files) (r : Option Reading) (P : Files → List ℕ → Type 0) (files : Files) (s : Serving) → o ≡ Some files → serving r ≡ Some s → OfSource o r P → P files s.project
+pub at_served : (o : Option Files) (r : Option Reading) (P : Files → List ℕ → Type 0) (files : Files) (s : Serving) → o ≡ Some files → serving r ≡ Some s →
+    OfSource o r P → P files s.project
 at_served o None P files s t is h = absurd h
 at_served o (Some (Check p)) P files s t is h = cc
 at_served o (Some (Sites p)) P files s t is h = cc
@@ -67,7 +69,8 @@ of_source o (Some (Replay p s)) Q h = told_is o (λ files. Q files p) (λ files 
 of_source o (Some (Serve p port s n)) Q h = told_is o (λ files. Q files p) (λ files t. h files p)
 of_source o (Some (Load seed n)) Q h = h notes_files notes_word
 
-pub from_source : (o : Option Files) (r : Option Reading) (P Q : Files → List ℕ → Type 0) → OfSource o r P → ((files : Files) (word : List ℕ) → P files word → Q files word) → ForSource o r Q
+pub from_source : (o : Option Files) (r : Option Reading) (P Q : Files → List ℕ → Type 0) → OfSource o r P →
+    ((files : Files) (word : List ℕ) → P files word → Q files word) → ForSource o r Q
 from_source o None P Q h f = tt
 from_source o (Some (Check p)) P Q h f = told_more o (λ files. P files p) (λ files. Q files p) h (λ files x. f files p x)
 from_source o (Some (Sites p)) P Q h f = told_more o (λ files. P files p) (λ files. Q files p) h (λ files x. f files p x)

@@ -24,7 +24,8 @@ of_files (Some files) word P Q (app, accepts, p) f = (app, accepts, f app p)
 pub coded : (told : Option Files) (word : List ℕ) (code : Code) → OfFiles told word (λ app. IsCodeFor app code) → OfFiles told word IsCoded
 coded told word code h = of_files told word (λ app. IsCodeFor app code) IsCoded h (λ app is. record { code = code; is_code = is })
 
-pub routes_of : (told : Option Files) (word : List ℕ) (code : Code) (routes : ℕ) → routes ≡ length code.handlers.routes → OfFiles told word (λ app. IsCodeFor app code)
+pub routes_of : (told : Option Files) (word : List ℕ) (code : Code) (routes : ℕ) → routes ≡ length code.handlers.routes →
+    OfFiles told word (λ app. IsCodeFor app code)
     → OfFiles told word (λ app. routes ≡ length app.handlers.routes)
 routes_of told word code routes is h =
     of_files told word (λ app. IsCodeFor app code) (λ app. routes ≡ length app.handlers.routes) h (λ app its. is ∙ ap (λ (hs : Handlers). length hs.routes) its.handlers)
@@ -57,7 +58,8 @@ pub if_started : (told : Option Files) (word : List ℕ) (code : Code) (patterns
 if_started told word code patterns settings old new under_way (Ok s) of all server = started told word code patterns settings old new under_way s of all server
 if_started told word code patterns settings old new under_way (Err e) of all server = tt
 
-unstarted : (told : Option Files) (word : List ℕ) (faults faults' : ℕ) (code : Code) (old new : Held) (e : RunEnd) → OfFiles told word (λ app. IsCodeFor app code)
+unstarted : (told : Option Files) (word : List ℕ) (faults faults' : ℕ) (code : Code) (old new : Held) (e : RunEnd) →
+    OfFiles told word (λ app. IsCodeFor app code)
     → Unattached code.schema old new e → Unstarted told word faults faults' old new e
 unstarted told word faults faults' code old new (end.Schema kept application) of other = (
   of_files told word (λ app. IsCodeFor app code) (λ app. HoldsOther app.schema old new kept application) of
@@ -72,7 +74,8 @@ unstarted told word faults faults' code old new end.Keeper of rose = (coded told
 unstarted told word faults faults' code old new end.Memory of want = tt
 unstarted told word faults faults' code old new e of other = absurd other
 
-pub if_unstarted : (told : Option Files) (word : List ℕ) (faults faults' : ℕ) (code : Code) (old new : Held) (r : Result ServerState RunEnd) → OfFiles told word (λ app. IsCodeFor app code)
+pub if_unstarted : (told : Option Files) (word : List ℕ) (faults faults' : ℕ) (code : Code) (old new : Held) (r : Result ServerState RunEnd) →
+    OfFiles told word (λ app. IsCodeFor app code)
     → IfErr r (Unattached code.schema old new) → IfErr r (Unstarted told word faults faults' old new)
 if_unstarted told word faults faults' code old new (Ok s) of h = tt
 if_unstarted told word faults faults' code old new (Err e) of h = unstarted told word faults faults' code old new e of h

@@ -23,7 +23,8 @@ use Rattle.ur_top.specs.Serving.{HasNext, IsTaken, IsOver, HasFewRequests, Serve
 -- ---- how many requests may be answered
 
 -- where more may be answered, fewer may
-pub ready_fewer : (bound : ℕ) (s : ServerState) (kept : KeptSchema) (under_way : Bool) (saved : Option Tables) (m n : ℕ) → m ≤ n → IsReadyWithin bound s kept under_way saved n
+pub ready_fewer : (bound : ℕ) (s : ServerState) (kept : KeptSchema) (under_way : Bool) (saved : Option Tables) (m n : ℕ) → m ≤ n →
+    IsReadyWithin bound s kept under_way saved n
     → IsReadyWithin bound s kept under_way saved m
 ready_fewer bound s kept under_way saved m n few h = record {
   ready = h.ready;
@@ -34,7 +35,8 @@ ready_fewer bound s kept under_way saved m n few h = record {
 }
 
 -- the keeper's schema is the code's before and after
-pub same_kept : (s s' : ServerState) (kept kept' : KeptSchema) → served_by s' ≡ served_by s → kept ≡ Keeps s.code.schema → kept' ≡ Keeps s'.code.schema → kept' ≡ kept
+pub same_kept : (s s' : ServerState) (kept kept' : KeptSchema) → served_by s' ≡ served_by s → kept ≡ Keeps s.code.schema → kept' ≡ Keeps s'.code.schema →
+    kept' ≡ kept
 same_kept s s' kept kept' same is is' = is' ∙ ap (λ (p : ServedProgram). Keeps p.code.schema) same ∙ sym is
 
 -- ---- the run so far
@@ -43,7 +45,8 @@ abbrev pub SoFar : ServedProgram → Option Traffic → Option Tables → ℕ �
 SoFar p told saved reads done left told' held' = WhereTold told (λ t. WhereTold saved (λ tables. Tells told' (λ u. Tells held' (λ now.
     RunSofar (ServedAnswers p) (ServedReaches p) (λ (h : Holding). h.store) 16777216 (fresh (store_of tables) reads) t done left now u))))
 
-pub begun : (s : ServerState) (told : Option Traffic) (saved : Option Tables) (reads : ℕ) → s.cache.entries ≡ [] → SoFar (served_by s) told saved reads [] 16777216 told (holding_of s saved reads)
+pub begun : (s : ServerState) (told : Option Traffic) (saved : Option Tables) (reads : ℕ) → s.cache.entries ≡ [] →
+    SoFar (served_by s) told saved reads [] 16777216 told (holding_of s saved reads)
 begun s None saved reads e = tt
 begun s (Some t) None reads e = tt
 begun s (Some t) (Some tables) reads e =
@@ -64,7 +67,8 @@ goes_on p (Some t) (Some tables) reads done left (Some u) (Some w) (Some now) (S
     run_goes_on (ServedAnswers p) (ServedReaches p) (λ (h : Holding). h.store) 16777216 left (fresh (store_of tables) reads) now after t u next.opened w done s some sofar next.opens next.session
 
 -- what ends the run leaves what the wire tells
-pub unmoved : (told told' : Option Traffic) (faults faults' : ℕ) (current current' : Bool) (e : RunEnd) → IsOver told told' faults faults' current current' e → WhereTold told (λ t. told' ≡ Some t)
+pub unmoved : (told told' : Option Traffic) (faults faults' : ℕ) (current current' : Bool) (e : RunEnd) →
+    IsOver told told' faults faults' current current' e → WhereTold told (λ t. told' ≡ Some t)
 unmoved None told' faults faults' current current' e h = tt
 unmoved (Some t) told' faults faults' current current' end.Done h = h.1.1
 unmoved (Some t) told' faults faults' current current' end.Wire h = h.1
@@ -119,7 +123,8 @@ pub none_came : (told : Option Traffic) → Comes told 0 told
 none_came None = tt
 none_came (Some t) = omega arith
 
-pub one_came : (told told1 told2 : Option Traffic) (done : List SessionEnd) (s : SessionEnd) → Comes told (length done) told1 → IsTaken told1 told2 → Comes told (length (done ++ s ∷ [])) told2
+pub one_came : (told told1 told2 : Option Traffic) (done : List SessionEnd) (s : SessionEnd) → Comes told (length done) told1 → IsTaken told1 told2 →
+    Comes told (length (done ++ s ∷ [])) told2
 one_came None told1 told2 done s comes taken = tt
 one_came (Some t) None told2 done s comes taken = absurd comes
 one_came (Some t) (Some u) None done s comes taken = absurd taken
@@ -131,7 +136,8 @@ abbrev All' : ℕ → Option Traffic → List SessionEnd → Type 0
 All' most told done = WhereTold told (λ t. (length done ≡ min most (length t.coming)) ⊎ HasAllMarks done)
 
 -- all that were allowed
-pub all_allowed : (most : ℕ) (told told' : Option Traffic) (done : List SessionEnd) → most ≤ length done → length done ≤ most → Comes told (length done) told' → All' most told done
+pub all_allowed : (most : ℕ) (told told' : Option Traffic) (done : List SessionEnd) → most ≤ length done → length done ≤ most →
+    Comes told (length done) told' → All' most told done
 all_allowed most None told' done le few comes = tt
 all_allowed most (Some t) None done le few comes = absurd comes
 all_allowed most (Some t) (Some u) done le few comes = inl (omega (arith, le, few, comes))
@@ -142,7 +148,8 @@ all_marks most left None done none marks = tt
 all_marks most left (Some t) done none marks = inr (omega (arith, none, marks))
 
 -- no connection was to come
-pub all_came : (most : ℕ) (told told' : Option Traffic) (done : List SessionEnd) → length done ≤ most → Comes told (length done) told' → WhereTold told' (λ t. t.coming ≡ []) → All' most told done
+pub all_came : (most : ℕ) (told told' : Option Traffic) (done : List SessionEnd) → length done ≤ most → Comes told (length done) told' →
+    WhereTold told' (λ t. t.coming ≡ []) → All' most told done
 all_came most None told' done few comes none = tt
 all_came most (Some t) None done few comes none = absurd comes
 all_came most (Some t) (Some u) done few comes none = inl (omega (arith, few, comes, ap length none))
@@ -151,7 +158,8 @@ none_coming : (told told' : Option Traffic) → WhereTold told (λ t. (t.coming 
 none_coming None told' h = tt
 none_coming (Some t) told' h = h.0
 
-pub serves_on : (most : ℕ) (told told1 told2 : Option Traffic) (faults faults1 faults2 : ℕ) (current1 current2 : Bool) (e : RunEnd) (done : List SessionEnd) → length done < most
+pub serves_on : (most : ℕ) (told told1 told2 : Option Traffic) (faults faults1 faults2 : ℕ) (current1 current2 : Bool) (e : RunEnd) (done : List SessionEnd) →
+    length done < most
     → Comes told (length done) told1 → faults1 ≡ count_after (wire_faults done) faults → (done ≢ [] → current1 ≡ false)
     → IsOver told1 told2 faults1 faults2 current1 current2 e → ServesOn most told faults faults2 current2 e done
 serves_on most told told1 told2 faults faults1 faults2 current1 current2 end.Done done few comes counted shut h =
@@ -170,13 +178,15 @@ serves_on most told told1 told2 faults faults1 faults2 current1 current2 (end.Re
 serves_on most told told1 told2 faults faults1 faults2 current1 current2 (end.Schema kept application) done few comes counted shut h = absurd h
 
 -- each one that was allowed has its session
-pub serves_all : (most : ℕ) (told told' : Option Traffic) (faults faults' : ℕ) (current : Bool) (done : List SessionEnd) → most ≤ length done → length done ≤ most
+pub serves_all : (most : ℕ) (told told' : Option Traffic) (faults faults' : ℕ) (current : Bool) (done : List SessionEnd) → most ≤ length done →
+    length done ≤ most
     → Comes told (length done) told' → (done ≢ [] → current ≡ false) → faults' ≡ count_after (wire_faults done) faults → ServesOn most told faults faults' current end.Done done
 serves_all most told told' faults faults' current done le few comes shut counted =
     (λ some. shut (λ e. omega (arith, some, le, ap length e)), all_allowed most told told' done le few comes, counted)
 
 -- no request may be answered any more
-pub serves_out : (most left : ℕ) (told : Option Traffic) (faults faults' : ℕ) (current : Bool) (done : List SessionEnd) → left ≤ 0 → 16777216 ≤ left + marks_of done
+pub serves_out : (most left : ℕ) (told : Option Traffic) (faults faults' : ℕ) (current : Bool) (done : List SessionEnd) → left ≤ 0 →
+    16777216 ≤ left + marks_of done
     → (done ≢ [] → current ≡ false) → faults' ≡ count_after (wire_faults done) faults → ServesOn most told faults faults' current end.Done done
 serves_out most left told faults faults' current done none marks shut counted =
     (λ some. shut (λ e. omega (arith, none, marks, ap marks_of e)), all_marks most left told done none marks, counted)
@@ -186,7 +196,8 @@ serves_out most left told faults faults' current done none marks shut counted =
 abbrev pub IsStill : Option Traffic → Option Traffic → ℕ → ℕ → Bool → Bool → Type 0
 IsStill told told' faults faults' current current' = (told' ≡ told) × (faults' ≡ faults) × (current' ≡ current)
 
-pub over_wants : (told told' : Option Traffic) (faults faults' : ℕ) (current current' : Bool) (e : RunEnd) → IsOver told told' faults faults' current current' e → e ≡ end.Memory
+pub over_wants : (told told' : Option Traffic) (faults faults' : ℕ) (current current' : Bool) (e : RunEnd) →
+    IsOver told told' faults faults' current current' e → e ≡ end.Memory
     → IsStill told told' faults faults' current current'
 over_wants told told' faults faults' current current' e over is =
     let h = subst (IsOver told told' faults faults' current current') is over in (h.1, h.2, h.0)
@@ -195,7 +206,8 @@ pub not_done : (r : serving.EndedServing) (done : List SessionEnd) (A : Type 0) 
 not_done r done A is wants = absurd (let two : end.Done ≡ end.Memory = sym (ap (λ (x : serving.EndedServing). x.end) is) ∙ wants in cc)
 
 -- how serving ended, of what it came to
-pub ends_as : (most : ℕ) (told : Option Traffic) (faults faults' : ℕ) (current : Bool) (done : List SessionEnd) (e : RunEnd) (r : serving.EndedServing) → r ≡ record { end = e; sessions = done }
+pub ends_as : (most : ℕ) (told : Option Traffic) (faults faults' : ℕ) (current : Bool) (done : List SessionEnd) (e : RunEnd) (r : serving.EndedServing) →
+    r ≡ record { end = e; sessions = done }
     → ServesOn most told faults faults' current e done → ServesOn most told faults faults' current r.end r.sessions
 ends_as most told faults faults' current done e r is h = subst (λ (x : serving.EndedServing). ServesOn most told faults faults' current x.end x.sessions) (sym is) h
 
@@ -205,26 +217,31 @@ ends_as most told faults faults' current done e r is h = subst (λ (x : serving.
 pub rose_both : (n m old mid new : ℕ) → RoseBy n old mid → RoseBy m mid new → RoseBy (n + m) old new
 rose_both n m old mid new h r = grind arith
 
-pub rose_last : (f : SessionEnd → ℕ) (count : List SessionEnd → ℕ) (done : List SessionEnd) (s : SessionEnd) (old mid new : ℕ) → count (done ++ s ∷ []) ≡ count done + f s
+pub rose_last : (f : SessionEnd → ℕ) (count : List SessionEnd → ℕ) (done : List SessionEnd) (s : SessionEnd) (old mid new : ℕ) →
+    count (done ++ s ∷ []) ≡ count done + f s
     → RoseBy (count done) old mid → RoseBy (f s) mid new → RoseBy (count (done ++ s ∷ [])) old new
 rose_last f count done s old mid new is h r = subst (λ n. RoseBy n old new) (sym is) (rose_both (count done) (f s) old mid new h r)
 
 -- the wire's count after one session more
-pub counted_last : (done : List SessionEnd) (s : SessionEnd) (old mid new : ℕ) → mid ≡ count_after (wire_faults done) old → new ≡ count_after (is_wire s.why) mid
+pub counted_last : (done : List SessionEnd) (s : SessionEnd) (old mid new : ℕ) → mid ≡ count_after (wire_faults done) old →
+    new ≡ count_after (is_wire s.why) mid
     → new ≡ count_after (wire_faults (done ++ s ∷ [])) old
 counted_last done s old mid new before last =
     last ∙ ap (count_after (is_wire s.why)) before ∙ sym (count_sum (wire_faults done) (is_wire s.why) old)
     ∙ ap (λ n. count_after n old) (sym (sum_last (λ (x : SessionEnd). is_wire x.why) done s))
 
 -- the run's requests that are left and its marks
-pub marks_on : (left : ℕ) (done : List SessionEnd) (s : SessionEnd) → 16777216 ≤ left + marks_of done → 16777216 ≤ (left - length s.marks) + marks_of (done ++ s ∷ [])
+pub marks_on : (left : ℕ) (done : List SessionEnd) (s : SessionEnd) → 16777216 ≤ left + marks_of done →
+    16777216 ≤ (left - length s.marks) + marks_of (done ++ s ∷ [])
 marks_on left done s h = omega (arith, h, sum_last (λ (x : SessionEnd). length x.marks) done s)
 
 -- as many as the run may have
-pub marks_less : (left : ℕ) (done : List SessionEnd) (s : SessionEnd) → length s.marks ≤ left → left + marks_of done ≤ 16777216 → (left - length s.marks) + marks_of (done ++ s ∷ []) ≤ 16777216
+pub marks_less : (left : ℕ) (done : List SessionEnd) (s : SessionEnd) → length s.marks ≤ left → left + marks_of done ≤ 16777216 →
+    (left - length s.marks) + marks_of (done ++ s ∷ []) ≤ 16777216
 marks_less left done s few h = omega (arith, few, h, sum_last (λ (x : SessionEnd). length x.marks) done s)
 
-pub short_last : (done : List SessionEnd) (s : SessionEnd) → All (λ x. length x.marks ≤ 1000) done → length s.marks ≤ 1000 → All (λ x. length x.marks ≤ 1000) (done ++ s ∷ [])
+pub short_last : (done : List SessionEnd) (s : SessionEnd) → All (λ x. length x.marks ≤ 1000) done → length s.marks ≤ 1000 →
+    All (λ x. length x.marks ≤ 1000) (done ++ s ∷ [])
 short_last done s all short =
     All-append (λ (x : SessionEnd). length x.marks ≤ 1000) done (s ∷ []) all (All-from_recursion (λ (x : SessionEnd). length x.marks ≤ 1000) (s ∷ []) (short, tt))
 
@@ -234,7 +251,8 @@ none_short = All-from_recursion (λ (x : SessionEnd). length x.marks ≤ 1000) [
 pub no_requests : HasFewRequests []
 no_requests = (omega arith, none_short)
 
-pub few_requests : (left : ℕ) (done : List SessionEnd) (e : RunEnd) (r : serving.EndedServing) → r ≡ record { end = e; sessions = done } → left + marks_of done ≤ 16777216
+pub few_requests : (left : ℕ) (done : List SessionEnd) (e : RunEnd) (r : serving.EndedServing) → r ≡ record { end = e; sessions = done } →
+    left + marks_of done ≤ 16777216
     → All (λ s. length s.marks ≤ 1000) done → HasFewRequests r.sessions
 few_requests left done e r is total short = subst (λ (x : serving.EndedServing). HasFewRequests x.sessions) (sym is) (omega (arith, total), short)
 

@@ -45,7 +45,8 @@ on_done (Ok a) f h = f h
 on_done (Err e) f h = tt
 
 -- The session of the only connection that comes is one on its bytes.
-pub answered : (p : ServedProgram) (left : ℕ) (now after : Holding) (t u : Traffic) (bytes : List ℕ) (s : SessionEnd) → t.coming ≡ bytes ∷ [] → s.marks ≡ mark.Done ∷ []
+pub answered : (p : ServedProgram) (left : ℕ) (now after : Holding) (t u : Traffic) (bytes : List ℕ) (s : SessionEnd) → t.coming ≡ bytes ∷ [] →
+    s.marks ≡ mark.Done ∷ []
     → IsNext p left now t s after u → IsAnswered p left now bytes after
 answered p left now after t u bytes s coming one h =
     let first : List ℕ = h.opens.0 in
@@ -90,7 +91,8 @@ all_last sessions s all one =
     All-append (λ (s : SessionEnd). All (λ m. m ≡ mark.Done) s.marks) sessions (s ∷ []) all (All-from_recursion (λ (s : SessionEnd). All (λ m. m ≡ mark.Done) s.marks) (s ∷ [])
     (subst (λ ms. All (λ m. m ≡ mark.Done) ms) (sym one) (All-from_recursion (λ m. m ≡ mark.Done) (mark.Done ∷ []) (refl, tt)), tt))
 
-pub sofar_one : (p : ServedProgram) (start now after : Holding) (connections rest : List (List ℕ)) (bytes : List ℕ) (left : ℕ) → 0 < left → Sofar p start connections (bytes ∷ rest) left now
+pub sofar_one : (p : ServedProgram) (start now after : Holding) (connections rest : List (List ℕ)) (bytes : List ℕ) (left : ℕ) → 0 < left →
+    Sofar p start connections (bytes ∷ rest) left now
     → IsAnswered p left now bytes after → Sofar p start connections rest (left - 1) after
 sofar_one p start now after connections rest bytes left some sofar a = record {
   sessions = sofar.sessions ++ a.session ∷ [];
@@ -102,7 +104,8 @@ sofar_one p start now after connections rest bytes left some sofar a = record {
       (continues_on (ServedAnswers p) (ServedReaches p) (λ (h : Holding). h.store) 16777216 start connections sofar.sessions sofar.given left now bytes rest a.session a.given after some sofar.goes_on a.is);
 }
 
-pub sofar_all : (p : ServedProgram) (start now : Holding) (connections : List (List ℕ)) (left : ℕ) → Sofar p start connections [] left now → AreAnswered p start connections now.reads
+pub sofar_all : (p : ServedProgram) (start now : Holding) (connections : List (List ℕ)) (left : ℕ) → Sofar p start connections [] left now →
+    AreAnswered p start connections now.reads
 sofar_all p start now connections left sofar = record {
   sessions = sofar.sessions ++ [];
   given = sofar.given ++ [];
@@ -133,14 +136,16 @@ coming n turn later state next bytes below is is_next asked =
     let more : n - turn ≡ suc (n - later) = omega (arith, below, is) in
     ap (λ k. requests k state) more ∙ ap (λ x. request x ∷ requests (n - later) x) (sym is_next) ∙ ap (λ bs. bs ∷ requests (n - later) next) (sym asked)
 
-pub sofar_goes_on : (p : ServedProgram) (start now after : Holding) (connections : List (List ℕ)) (n turn later state next left : ℕ) (bytes : List ℕ) → 0 < left → turn < n → later ≡ turn + 1
+pub sofar_goes_on : (p : ServedProgram) (start now after : Holding) (connections : List (List ℕ)) (n turn later state next left : ℕ) (bytes : List ℕ) →
+    0 < left → turn < n → later ≡ turn + 1
     → next ≡ next_state state → bytes ≡ request next → Sofar p start connections (requests (n - turn) state) left now → IsAnswered p left now bytes after
     → Sofar p start connections (requests (n - later) next) (left - 1) after
 sofar_goes_on p start now after connections n turn later state next left bytes some below is is_next asked sofar answered =
     sofar_one p start now after connections (requests (n - later) next) bytes left some
     (subst (λ rest. Sofar p start connections rest left now) (coming n turn later state next bytes below is is_next asked) sofar) answered
 
-pub sofar_ends : (p : ServedProgram) (start now : Holding) (connections : List (List ℕ)) (n turn state left : ℕ) → n ≤ turn → Sofar p start connections (requests (n - turn) state) left now
+pub sofar_ends : (p : ServedProgram) (start now : Holding) (connections : List (List ℕ)) (n turn state left : ℕ) → n ≤ turn →
+    Sofar p start connections (requests (n - turn) state) left now
     → AreAnswered p start connections now.reads
 sofar_ends p start now connections n turn state left all sofar =
     let none : n - turn ≡ 0 = omega (arith, all) in
@@ -157,7 +162,8 @@ empty_is : (schema : Schema) → store_of (empty_tables schema) ≡ empty_store 
 empty_is schema = ap (λ ts. record { tables = ts; sequences = map (λ n. pos 1) schema.sequences }) (empty_rows schema.tables)
 
 -- a server of the code of the notes' files is one of the notes
-pub if_notes_server : (code : Code) (patterns : Patterns) (cache : ℕ) (old new : Memory) (files : List (List ℕ × List ℕ)) (r : Result ServerState RunEnd) → files ≡ notes_list
+pub if_notes_server : (code : Code) (patterns : Patterns) (cache : ℕ) (old new : Memory) (files : List (List ℕ × List ℕ)) (r : Result ServerState RunEnd) →
+    files ≡ notes_list
     → OfFiles (Some (file_of files)) notes_word (λ app. IsCodeFor app code) → AreAllPatterns code.queries code.changes patterns
     → IfOk r (IsAttachedServer code patterns (notes_settings cache) (held_in old) (held_in new) new.under_way) → IfOk r (λ s. (app : Typed) × IsNotesServer app cache old s new)
 if_notes_server code patterns cache old new files (Ok s) is of all server =
@@ -168,7 +174,8 @@ if_notes_server code patterns cache old new files (Ok s) is of all server =
 if_notes_server code patterns cache old new files (Err e) is of all server = tt
 
 -- what such a server has answered are scans of the notes
-pub scans_of : CodeServesSource → SoundTablesLast → (app : Typed) (cache : ℕ) (old new : Memory) (s : ServerState) (connections : List (List ℕ)) (reads : ℕ) → old.kept ≡ None → new.reads ≡ 0
+pub scans_of : CodeServesSource → SoundTablesLast → (app : Typed) (cache : ℕ) (old new : Memory) (s : ServerState) (connections : List (List ℕ)) (reads : ℕ) →
+    old.kept ≡ None → new.reads ≡ 0
     → IsNotesServer app cache old s new → AreAnswered (served_by s) (fresh (store_of new.saved) new.reads) connections reads → HasScansOf connections cache reads
 scans_of serves lasts app cache old new s connections reads none zero_reads h a =
     let code = s.code in

@@ -2,7 +2,8 @@
 use Rattle.std.proofs.Common.{◌≡◌, ℕ, List, [], ◌∷◌, ◌++◌, codes, ap, ◌∙◌}
 use Rattle.ur_top.specs.Notes.{notes_list, notes_project, notes_module, notes_signature}
 
-pub notes_are : (none one two three : List (List ℕ × List ℕ)) (project source signature : List ℕ) → none ≡ [] → project ≡ notes_project → source ≡ notes_module → signature ≡ notes_signature
+pub notes_are : (none one two three : List (List ℕ × List ℕ)) (project source signature : List ℕ) → none ≡ [] → project ≡ notes_project →
+    source ≡ notes_module → signature ≡ notes_signature
     → one ≡ none ++ (codes "notes.urp", project) ∷ [] → two ≡ one ++ (codes "main.ur", source) ∷ [] → three ≡ two ++ (codes "main.urs", signature) ∷ [] → three ≡ notes_list
 unfolding notes_list
 notes_are none one two three project source signature is is_project is_source is_signature first second third =

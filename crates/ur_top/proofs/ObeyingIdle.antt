@@ -79,7 +79,8 @@ module _ (told : Option Files) (reading : Option Reading) (word : List ℕ) (of 
   unstarted_ends serves old new end.Keeper h idle = (of (λ files word. (app : Typed) × Accepts files word app × IsCoded app) h.0, serves, h.1, no_calls old new idle)
   unstarted_ends serves old new e h idle = uncompiled_ends old new e h idle
 
-pub checked_ends : (told : Option Files) (word : List ℕ) (old new : World) (e : RunEnd) → IsChecked told word old.shelf_faults new.shelf_faults e → IsIdle old new
+pub checked_ends : (told : Option Files) (word : List ℕ) (old new : World) (e : RunEnd) → IsChecked told word old.shelf_faults new.shelf_faults e →
+    IsIdle old new
     → Ends told (Some (Check word)) old new e []
 checked_ends told word old new (end.Checked routes) h idle = ((word, refl, h.0), h.1, no_calls old new idle)
 checked_ends told word old new e h idle = uncompiled_ends told (Some (Check word)) word (λ P x. x) tt old new e h idle
@@ -102,7 +103,8 @@ sited_ends told word old new (end.Listed text) h idle = (
 )
 sited_ends told word old new e h idle = uncompiled_ends told (Some (Sites word)) word (λ P x. x) tt old new e h idle
 
-pub loaded_ends : (told : Option Files) (seed n : ℕ) (old new : World) (e : RunEnd) → IsLoadEnd seed n e → IsIdle old new → Ends told (Some (Load seed n)) old new e []
+pub loaded_ends : (told : Option Files) (seed n : ℕ) (old new : World) (e : RunEnd) → IsLoadEnd seed n e → IsIdle old new →
+    Ends told (Some (Load seed n)) old new e []
 loaded_ends told seed n old new (end.Loaded r) h idle = ((seed, ap (λ k. Some (Load seed k)) (sym h.0), h.1), h.2, no_calls old new idle)
 loaded_ends told seed n old new (end.Refused file r) h idle = (h, no_calls old new idle)
 loaded_ends told seed n old new end.Memory h idle = no_memory told (Some (Load seed n)) old new
@@ -110,7 +112,8 @@ loaded_ends told seed n old new e h idle = absurd h
 
 -- ---- all of it
 
-pub any_application : (told : Option Files) (reading : Option Reading) (P : Serving → Typed → Type 0) → ((s : Serving) (app : Typed) → P s app) → ForApplication told reading P
+pub any_application : (told : Option Files) (reading : Option Reading) (P : Serving → Typed → Type 0) → ((s : Serving) (app : Typed) → P s app) →
+    ForApplication told reading P
 any_application told reading P h = of_served told reading (λ files s. (app : Typed) → Accepts files s.project app → P s app) (λ files s t at app a. h s app)
 
 same_tables : (schema : Schema) (kept : KeptSchema) (saved saved' : Option Tables) → saved' ≡ saved → IsAttached schema kept saved saved'
@@ -126,7 +129,8 @@ none_counted n old none =
     ap (λ k. count_after k old) same
 
 -- no connection was asked for where serving did not begin
-pub unstarted_next : (told : Option Files) (word : List ℕ) (faults faults' : ℕ) (old new : Held) (reading : Option Reading) (e : RunEnd) → Unstarted told word faults faults' old new e → failed_next reading [] e ≡ 0
+pub unstarted_next : (told : Option Files) (word : List ℕ) (faults faults' : ℕ) (old new : Held) (reading : Option Reading) (e : RunEnd) →
+    Unstarted told word faults faults' old new e → failed_next reading [] e ≡ 0
 unstarted_next told word faults faults' old new reading end.Wire h = absurd h
 unstarted_next told word faults faults' old new reading e h = refl
 

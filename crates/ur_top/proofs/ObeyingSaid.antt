@@ -23,7 +23,8 @@ Says sink sink' reading e = WhereTold sink (λ before. (text : List ℕ) × (sin
 
 -- ---- a project that was not started
 
-pub unstarted_said : (told : Option Files) (word : List ℕ) (faults faults' : ℕ) (old new : Held) (reading : Option Reading) (e : RunEnd) → Unstarted told word faults faults' old new e → IsSaid reading e []
+pub unstarted_said : (told : Option Files) (word : List ℕ) (faults faults' : ℕ) (old new : Held) (reading : Option Reading) (e : RunEnd) →
+    Unstarted told word faults faults' old new e → IsSaid reading e []
 unstarted_said told word faults faults' old new reading (end.Refused file r) h = refl
 unstarted_said told word faults faults' old new reading (end.Schema kept application) h = refl
 unstarted_said told word faults faults' old new reading end.Shelf h = refl
@@ -31,7 +32,8 @@ unstarted_said told word faults faults' old new reading end.Keeper h = refl
 unstarted_said told word faults faults' old new reading end.Memory h = inl refl
 unstarted_said told word faults faults' old new reading e h = absurd h
 
-pub unstarted_sink : (told : Option Files) (word : List ℕ) (faults faults' : ℕ) (old new : Held) (e : RunEnd) → Unstarted told word faults faults' old new e → e ≡ end.Sink → ⊥
+pub unstarted_sink : (told : Option Files) (word : List ℕ) (faults faults' : ℕ) (old new : Held) (e : RunEnd) → Unstarted told word faults faults' old new e →
+    e ≡ end.Sink → ⊥
 unstarted_sink told word faults faults' old new e h is = subst (λ z. Unstarted told word faults faults' old new z) is h
 
 -- ---- a first line that was not printed

@@ -43,7 +43,8 @@ use Rattle.ur_top.proofs.ObeyingIdle.{held, none_counted}
 -- ---- the application of the files
 
 -- what holds of an application of the files holds of each that they are
-pub the_application : OneApplication → (told : Option Files) (reading : Option Reading) (s : Serving) → serving reading ≡ Some s → (Q : Typed → Type 0) (P : Serving → Typed → Type 0)
+pub the_application : OneApplication → (told : Option Files) (reading : Option Reading) (s : Serving) → serving reading ≡ Some s →
+    (Q : Typed → Type 0) (P : Serving → Typed → Type 0)
     → OfFiles told s.project Q → ((app : Typed) → Q app → P s app) → ForApplication told reading P
 the_application one told reading s is Q P h f =
     subst (λ o. WhereTold told (λ files. IfServing o (λ r. (app : Typed) → Accepts files r.project app → P r app))) (sym is)
@@ -66,7 +67,8 @@ code_of_source app code h routes = record {
 -- ---- what `attach` leaves
 
 -- a schema that was kept is the application's
-same_schema : (schema other : Schema) (kept : KeptSchema) (saved saved' : Option Tables) → AttachesTo schema kept Ready saved saved' → kept ≡ Keeps other → other ≡ schema
+same_schema : (schema other : Schema) (kept : KeptSchema) (saved saved' : Option Tables) → AttachesTo schema kept Ready saved saved' → kept ≡ Keeps other →
+    other ≡ schema
 same_schema schema other kept saved saved' h is = let at = subst (λ k. AttachesTo schema k Ready saved saved') is h in at.0
 
 -- no other schema was told
@@ -77,20 +79,23 @@ no_other schema (Keeps k) saved saved' h other = other h.0
 no_other schema (Spells text tables) saved saved' h other = other h.0
 
 -- where it was told what the store has, the tables are told
-pub tells_after : (schema : Schema) (kept : KeptSchema) (saved saved' : Option Tables) → AttachesTo schema kept Ready saved saved' → TellsStore kept saved → IsSome saved'
+pub tells_after : (schema : Schema) (kept : KeptSchema) (saved saved' : Option Tables) → AttachesTo schema kept Ready saved saved' → TellsStore kept saved →
+    IsSome saved'
 tells_after schema Untold saved saved' h tells = absurd tells
 tells_after schema Empty None saved' h tells = absurd (false≢true tells)
 tells_after schema Empty (Some t) saved' h tells = subst IsSome (sym h) refl
 tells_after schema (Keeps k) saved saved' h tells = subst IsSome (sym h.1) tells
 tells_after schema (Spells text tables) saved saved' h tells = subst IsSome (sym h.1) refl
 
-is_attached : (schema : Schema) (kept : KeptSchema) (saved saved' : Option Tables) → AttachesTo schema kept Ready saved saved' → IsAttached schema kept saved saved'
+is_attached : (schema : Schema) (kept : KeptSchema) (saved saved' : Option Tables) → AttachesTo schema kept Ready saved saved' →
+    IsAttached schema kept saved saved'
 is_attached schema Untold saved saved' h = tt
 is_attached schema Empty saved saved' h = inr h
 is_attached schema (Keeps k) saved saved' h = h.1
 is_attached schema (Spells text tables) saved saved' h = inr h
 
-attach_leaves : (schema : Schema) (kept : KeptSchema) (saved : Option Tables) (tables : Tables) → AttachesTo schema kept Ready saved (Some tables) → AttachLeaves schema kept saved tables
+attach_leaves : (schema : Schema) (kept : KeptSchema) (saved : Option Tables) (tables : Tables) → AttachesTo schema kept Ready saved (Some tables) →
+    AttachLeaves schema kept saved tables
 attach_leaves schema Untold saved tables h = tt
 attach_leaves schema Empty None tables h = cc
 attach_leaves schema Empty (Some t) tables h = cc
@@ -100,7 +105,8 @@ attach_leaves schema (Spells text has) saved tables h = cc
 -- ---- what was served
 
 -- where wire and tables are told, the sessions are those that the headline says
-run_served : ServedRunServes → (app : Typed) (s : ServerState) → IsCodeOfSource app s.code → AreAllPatterns s.code.queries s.code.changes s.patterns → s.steps ≤ 4294967295
+run_served : ServedRunServes → (app : Typed) (s : ServerState) → IsCodeOfSource app s.code → AreAllPatterns s.code.queries s.code.changes s.patterns →
+    s.steps ≤ 4294967295
     → (settings : Settings) → settings.steps ≡ s.steps → settings.cache ≡ s.cache.capacity
     → (kept : KeptSchema) (wire wire' : Option Traffic) (saved mid saved' : Option Tables) (reads reads' : ℕ) (sessions : List SessionEnd)
     → AttachesTo app.schema kept Ready saved mid → WhereTold mid (AreSound app.schema) → IsSome mid
@@ -136,7 +142,8 @@ pub record HasRun (tells : Type 0) (most : ℕ) (old : World) (mid : Held) (s : 
   pub keeper_later : mid.faults ≤ new.keeper_faults
 
 -- the same by the clauses of the loop over connections, whose count of scans begins at the one before
-pub has_run : (tells : Type 0) (most : ℕ) (old : World) (mid : Held) (reads : ℕ) (s : ServerState) (new : World) (sessions : List SessionEnd) → reads ≡ old.reads → (tells → IsSome mid.saved)
+pub has_run : (tells : Type 0) (most : ℕ) (old : World) (mid : Held) (reads : ℕ) (s : ServerState) (new : World) (sessions : List SessionEnd) →
+    reads ≡ old.reads → (tells → IsSome mid.saved)
     → WhereTold old.wire (λ t. WhereTold mid.saved (λ tables. Tells new.wire (λ u. Tells new.saved (λ after. HasServed s (store_of tables) reads t sessions (store_of after) new.reads u))))
     → RoseBy (keeper_faults sessions) mid.faults new.keeper_faults → length sessions ≤ most → HasFewRequests sessions
     → (sessions ≡ [] → WhereTold old.wire (λ t. new.wire ≡ Some t) × (new.reads ≡ reads) × (new.saved ≡ mid.saved)) → new.kept ≡ mid.kept → new.under_way ≡ false
@@ -217,7 +224,8 @@ module _ (one : OneApplication) (law : ServedRunServes) (links : LinksOfSourceLe
 
 -- ---- how it ends
 
-pub is_compiled : (told : Option Files) (word : List ℕ) (settings : Settings) (old mid : Held) (under_way : Bool) (s : ServerState) → IsStarted told word settings old mid under_way s → OfFiles told word IsCoded
+pub is_compiled : (told : Option Files) (word : List ℕ) (settings : Settings) (old mid : Held) (under_way : Bool) (s : ServerState) →
+    IsStarted told word settings old mid under_way s → OfFiles told word IsCoded
 is_compiled told word settings old mid under_way s h =
     told_more told (λ files. (app : Typed) × Accepts files word app × IsCodeFor app s.code) (λ files. (app : Typed) × Accepts files word app × IsCoded app) h.coded
     (λ files x. (x.0, x.1, record { code = s.code; is_code = x.2 }))
@@ -225,7 +233,8 @@ is_compiled told word settings old mid under_way s h =
 abbrev pub KeepsIts : KeptSchema → Typed → Type 0
 KeepsIts kept app = HasOther app.schema kept → ⊥
 
-pub keeps_its : (told : Option Files) (word : List ℕ) (settings : Settings) (old mid : Held) (under_way : Bool) (s : ServerState) → IsStarted told word settings old mid under_way s
+pub keeps_its : (told : Option Files) (word : List ℕ) (settings : Settings) (old mid : Held) (under_way : Bool) (s : ServerState) →
+    IsStarted told word settings old mid under_way s
     → OfFiles told word (KeepsIts old.kept)
 keeps_its told word settings old mid under_way s h =
     told_more told (λ files. (app : Typed) × Accepts files word app × IsCodeFor app s.code) (λ files. (app : Typed) × Accepts files word app × KeepsIts old.kept app) h.coded
@@ -370,13 +379,15 @@ module _ (word : List ℕ) (settings : Settings) (told : Option Traffic) (faults
 
 -- ---- serving began
 
-pub on_serves : (most : ℕ) (told : Option Traffic) (faults faults' : ℕ) (current : Bool) (e : RunEnd) (sessions : List SessionEnd) → ServesOn most told faults faults' current e sessions → IsUnserved e → ⊥
+pub on_serves : (most : ℕ) (told : Option Traffic) (faults faults' : ℕ) (current : Bool) (e : RunEnd) (sessions : List SessionEnd) →
+    ServesOn most told faults faults' current e sessions → IsUnserved e → ⊥
 on_serves most told faults faults' current end.Done sessions on x = x
 on_serves most told faults faults' current end.Wire sessions on x = x
 on_serves most told faults faults' current end.Memory sessions on x = x
 on_serves most told faults faults' current e sessions on x = absurd on
 
-replay_serves : (most : ℕ) (told : Option Traffic) (faults faults' : ℕ) (current : Bool) (e e' : RunEnd) (sessions sessions' : List SessionEnd) → ServesOn most told faults faults' current e sessions
+replay_serves : (most : ℕ) (told : Option Traffic) (faults faults' : ℕ) (current : Bool) (e e' : RunEnd) (sessions sessions' : List SessionEnd) →
+    ServesOn most told faults faults' current e sessions
     → IsReplayed e sessions e' sessions' → IsUnserved e' → ⊥
 replay_serves most told faults faults' current e e' sessions sessions' on (same, inl (is, cut)) x = subst IsUnserved is x
 replay_serves most told faults faults' current e e' sessions sessions' on (same, inr (is, whole)) x = on_serves most told faults faults' current e sessions on (subst IsUnserved is x)
@@ -387,13 +398,15 @@ line_serves port told told' faults faults' end.Sink h x = x
 line_serves port told told' faults faults' end.Memory h x = x
 line_serves port told told' faults faults' e h x = absurd h
 
-pub line_next : (port : ℕ) (told told' : Option (List ℕ)) (faults faults' : ℕ) (reading : Option Reading) (e : RunEnd) → IsUnsaid port told told' faults faults' e → failed_next reading [] e ≡ 0
+pub line_next : (port : ℕ) (told told' : Option (List ℕ)) (faults faults' : ℕ) (reading : Option Reading) (e : RunEnd) →
+    IsUnsaid port told told' faults faults' e → failed_next reading [] e ≡ 0
 line_next port told told' faults faults' reading end.Sink h = refl
 line_next port told told' faults faults' reading end.Memory h = refl
 line_next port told told' faults faults' reading e h = absurd h
 
 -- what holds where memory was wanting
-replay_wants : (e e' : RunEnd) (sessions sessions' : List SessionEnd) (A : Type 0) → IsReplayed e sessions e' sessions' → (sessions ≡ [] → e ≡ end.Memory → A) → sessions ≡ [] → e' ≡ end.Memory → A
+replay_wants : (e e' : RunEnd) (sessions sessions' : List SessionEnd) (A : Type 0) → IsReplayed e sessions e' sessions' →
+    (sessions ≡ [] → e ≡ end.Memory → A) → sessions ≡ [] → e' ≡ end.Memory → A
 replay_wants e e' sessions sessions' A (same, inl (is, cut)) wanting none wants = absurd (let two : end.Wire ≡ end.Memory = sym is ∙ wants in cc)
 replay_wants e e' sessions sessions' A (same, inr (is, whole)) wanting none wants = wanting none (sym is ∙ wants)
 

@@ -35,7 +35,8 @@ connections (Some digits) n is = let least : 1 ≤ n = at_least 1 1000000 digits
 same : (a r : Reading) → ServesSome a → Some a ≡ Some r → ServesSome r
 same a r h is = let e : a ≡ r = cc in subst ServesSome e h
 
-of_then : {A : Type 0} (o : Option A) (f : A → Option Reading) → ((a : A) (r : Reading) → f a ≡ Some r → ServesSome r) → (r : Reading) → option_and_then f o ≡ Some r → ServesSome r
+of_then : {A : Type 0} (o : Option A) (f : A → Option Reading) → ((a : A) (r : Reading) → f a ≡ Some r → ServesSome r) → (r : Reading) →
+    option_and_then f o ≡ Some r → ServesSome r
 of_then None f h r is = cc
 of_then (Some a) f h r is = h a r is
 

@@ -23,7 +23,8 @@ abbrev pub HasSession : ServedProgram → ℕ → Option Traffic → Option Hold
 HasSession p most told held s told' held' = WhereTold told (λ t. WhereTold held (λ now. Tells told' (λ u. Tells held' (λ after.
     IsSessionOn (ServedAnswers p) (ServedReaches p) (λ (h : Holding). h.store) most now t s after u))))
 
-pub next_session : (p : ServedProgram) (left : ℕ) (told0 told1 told2 told3 : Option Traffic) (held0 held1 : Option Holding) (s s' : SessionEnd) → WhereTold told0 (λ t. Opens t true told1)
+pub next_session : (p : ServedProgram) (left : ℕ) (told0 told1 told2 told3 : Option Traffic) (held0 held1 : Option Holding) (s s' : SessionEnd) →
+    WhereTold told0 (λ t. Opens t true told1)
     → HasSession p (min 1000 left) told1 held0 s told2 held1 → told3 ≡ told2 → s' ≡ s → HasNext p left told0 held0 s' told3 held1
 next_session p left None told1 told2 told3 held0 held1 s s' opens session same is = tt
 next_session p left (Some t) told1 told2 told3 None held1 s s' opens session same is = tt
@@ -37,7 +38,8 @@ next_session p left (Some t) (Some v) (Some u) told3 (Some now) (Some after) s s
 opened_coming : (t v : Traffic) (first : List ℕ) (rest : List (List ℕ)) → Some v ≡ Some (opened t first rest) → v.coming ≡ rest
 opened_coming t v first rest e = let same : v ≡ opened t first rest = cc in ap (λ (x : Traffic). x.coming) same
 
-pub next_taken : (told0 told1 told2 told3 : Option Traffic) → WhereTold told0 (λ t. Opens t true told1) → WhereTold told1 (λ t. Tells told2 (λ u. u.coming ≡ t.coming)) → told3 ≡ told2 → IsTaken told0 told3
+pub next_taken : (told0 told1 told2 told3 : Option Traffic) → WhereTold told0 (λ t. Opens t true told1) →
+    WhereTold told1 (λ t. Tells told2 (λ u. u.coming ≡ t.coming)) → told3 ≡ told2 → IsTaken told0 told3
 next_taken None told1 told2 told3 opens coming same = tt
 next_taken (Some t) None told2 told3 (first, rest, comes, none) coming same = absurd (cc)
 next_taken (Some t) (Some v) None told3 opens coming same = absurd coming

@@ -95,7 +95,7 @@ Unstarted told word faults faults' old new e = Uncompiled told word faults fault
 
 -- A server of code, attached to the keeper, that has answered nothing yet.
 pub record IsAttachedServer (code : Code) (patterns : Patterns) (settings : Settings) (old new : Held) (under_way : Bool) (s : ServerState) : Type 0 where
-  pub is : s ≡ record { code = code; patterns = patterns; cache = record { capacity = settings.cache; entries = []; masks = [] }; steps = settings.steps }
+  pub is : s ≡ record { code = code; patterns = patterns; cache = record { capacity = settings.cache; entries = []; masks = [] }; steps = settings.steps; pages = [] }
   pub routes : AreRoutes code.handlers
   pub units : settings.steps ≤ 4294967295
   pub ready : IsReady s new.kept under_way new.saved

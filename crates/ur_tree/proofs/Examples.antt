@@ -13,6 +13,7 @@ use Rattle.ur_sql.specs.declared.query.Aggregate.TheVariants as agg
 use Rattle.ur_rows.specs.declared.normal.Label.TheVariants as label
 use Rattle.ur_rows.specs.declared.normal.NormalType.TheVariants as ty
 use Rattle.ur_rows.specs.Made as made
+use Rattle.ur_rows.specs.Order.{stands_before}
 use Rattle.ur_tree.specs.FieldNames.{capital}
 use Rattle.ur_tree.specs.Places.{in_body, in_table, in_form, inside, fields_found}
 use Rattle.ur_tree.specs.QueryRow.{query_row}
@@ -47,6 +48,25 @@ greatest = record {
 
 greatest_is_optional : query_row (codes "M" ∷ []) greatest ≡ made.field (label.Literal (codes "M")) (made.option_of ty.Str) ∷ []
 greatest_is_optional = refl
+
+-- `SELECT s.A AS A, SOME(s.B) AS B FROM s`, `s` having an optional int and a string
+abbrev options : Query
+options = record {
+  params = [];
+  fields = field.Single (record { 0 = 0 }) (s.Column 0 0) ∷ field.Single (record { 0 = 1 }) (s.Present' tt (one (s.Column 0 1) end)) ∷ [];
+  «from» = record { table = 0; columns = kind.OptInt ∷ kind.Str ∷ [] } ∷ [];
+  on = [];
+  filter = None;
+  group = [];
+  order = [];
+  limit = None;
+  offset = None;
+}
+
+options_are_optional : query_row (codes "A" ∷ codes "B" ∷ []) options
+    ≡ made.field (label.Literal (codes "A")) (made.option_of ty.Int) ∷ made.field (label.Literal (codes "B")) (made.option_of ty.Str) ∷ []
+unfolding stands_before
+options_are_optional = refl
 
 -- ---- names
 

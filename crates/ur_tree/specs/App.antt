@@ -1,7 +1,9 @@
 -- The resolved source of a project is typed.
-use Rattle.std.specs.Prelude.{◌≡◌, ◌<◌, ℕ, [], length, take, All, AllPairs, Some, IsTrue, IsFalse, IfSome, slice_get}
+use Rattle.std.specs.Prelude.{◌≡◌, ◌<◌, ℕ, List, [], length, take, All, AllPairs, Some, None, IsTrue, IsFalse, IfSome, slice_get}
 use Rattle.std.specs.List.{AllZip}
 use Rattle.ur_syntax.specs.Kinds.{is_plain}
+use Rattle.ur_values.specs.declared.schema.ColumnKind.{ColumnKind}
+use Rattle.ur_values.specs.Kinds.{inside}
 use Rattle.ur_sql.specs.Typing.{QueryFits, ChangeFits}
 use Rattle.ur_tags.specs.declared.routes.Route.{Route}
 use Rattle.ur_rows.specs.declared.normal.NormalType.{NormalType}
@@ -75,6 +77,10 @@ pub record RouteFits (app : Typed) (route : Route) (number : ℕ) : Type 0 where
   pub fields : All (λ f. slice_get app.names f.number.0 ≡ Some f.name) route.form
   pub rising : AllPairs (λ f g. f.number.0 < g.number.0) route.form
 
+-- a cookie holds an int, a text or a bool, and no option
+abbrev pub IsBasicCookie : List ℕ × ColumnKind → Type 0
+IsBasicCookie c = inside c.1 ≡ None
+
 -- each part of the project is typed, no normal form having more than `most` nodes
 pub record AppIsTyped (most : ℕ) (app : Typed) : Type 0 where
   pub variants : All (VariantIsTyped app) app.variants
@@ -83,3 +89,4 @@ pub record AppIsTyped (most : ℕ) (app : Typed) : Type 0 where
   pub queries : All (QueryFits app.schema) app.queries
   pub changes : All (ChangeFits app.schema) app.changes
   pub routes : AllZip (RouteFits app) app.handlers.routes app.targets
+  pub cookies : All IsBasicCookie app.cookies

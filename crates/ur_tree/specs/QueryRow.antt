@@ -1,18 +1,14 @@
 -- The row of a query's answer, whose fields have the names that their numbers stand for.
-use Rattle.std.specs.Prelude.{ℕ, List, [], ◌∷◌, Option, Some, None, slice_get, slice_index_or}
+use Rattle.std.specs.Prelude.{ℕ, List, [], ◌∷◌, Option, Some, None, slice_index_or}
 use Rattle.ur_base.specs.declared.names.Name.{Name}
 use Rattle.ur_values.specs.declared.schema.ColumnKind.{ColumnKind}
-use Rattle.ur_values.specs.declared.schema.ColumnKind.TheVariants as kind
-use Rattle.ur_values.specs.declared.value.Value.{Value}
-use Rattle.ur_values.specs.declared.value.Value.TheVariants as v
-use Rattle.ur_sql.specs.declared.scalar.Scalar.{Scalar}
-use Rattle.ur_sql.specs.declared.scalar.Scalar.TheVariants as s
 use Rattle.ur_sql.specs.declared.query.Query.{Query}
 use Rattle.ur_sql.specs.declared.query.ColumnAt.{ColumnAt}
 use Rattle.ur_sql.specs.declared.query.Field.{Field}
 use Rattle.ur_sql.specs.declared.query.Field.TheVariants as field
 use Rattle.ur_sql.specs.declared.query.Aggregate.{Aggregate}
 use Rattle.ur_sql.specs.declared.query.Aggregate.TheVariants as agg
+use Rattle.ur_sql.specs.Kinds.{scalar_kind}
 use Rattle.ur_sql.specs.Typing.{Kinds, column_kind, kinds_in}
 use Rattle.ur_rows.specs.declared.normal.Label.TheVariants as label
 use Rattle.ur_rows.specs.declared.normal.NormalType.{NormalType}
@@ -21,26 +17,6 @@ use Rattle.ur_rows.specs.declared.normal.Part.{Part}
 use Rattle.ur_rows.specs.Order.{with_part}
 use Rattle.ur_rows.specs.Made as made
 use Rattle.ur_tree.specs.Scalars.{kind_type}
-
-abbrev pub constant_kind : Value → Option ColumnKind
-constant_kind (v.Int i) = Some kind.Int
-constant_kind (v.Str t) = Some kind.Str
-constant_kind (v.Bool b) = Some kind.Bool
-constant_kind _ = None
-
--- the kind of an expression's values
-abbrev pub scalar_kind : Kinds → Scalar → Option ColumnKind
-scalar_kind ks (s.Constant x) = constant_kind x
-scalar_kind ks (s.Column i c) = column_kind ks i c
-scalar_kind ks (s.Param n) = slice_get ks.params n
-scalar_kind ks (s.Or' _ a _ b) = Some kind.Bool
-scalar_kind ks (s.And' _ a _ b) = Some kind.Bool
-scalar_kind ks (s.Not' _ a) = Some kind.Bool
-scalar_kind ks (s.Compare' c _ a _ b) = Some kind.Bool
-scalar_kind ks (s.Add' _ a _ b) = Some kind.Int
-scalar_kind ks (s.Sub' _ a _ b) = Some kind.Int
-scalar_kind ks (s.Mul' _ a _ b) = Some kind.Int
-scalar_kind ks (s.Neg' _ a) = Some kind.Int
 
 -- the type of a kind; a query that fits its tables has a kind wherever it is asked for
 abbrev pub kind_if_any : Option ColumnKind → NormalType

@@ -15,6 +15,10 @@ const NESTING: usize = 256;
 /// How many signs, or parentheses around kinds, may stand in each other.
 const LEVELS: usize = 1024;
 
+/// A hundred parentheses.
+const OPEN: &[u8] =
+    b"((((((((((((((((((((((((((((((((((((((((((((((((((((((((((((((((((((((((((((((((((((((((((((((((((((";
+
 /// What is read.
 #[derive(Clone, Copy)]
 enum Part {
@@ -159,4 +163,27 @@ fn parentheses(rt: HostRuntime) {
     let value = nest(b"val x : int = ", b"1");
     assert_eq!(rt; comes_to(rt.alloc(), Part::Module, value, 255), End(1));
     assert_eq!(rt; comes_to(rt.alloc(), Part::Module, value, 256), Refused(6));
+}
+
+/// What is read around a tree takes of its stack: twelve levels for each of a hundred parentheses.
+#[test]
+fn sums_within_parentheses(rt: HostRuntime) {
+    let sums = chain(OPEN, b"x+", b"x");
+    assert_eq!(rt; comes_to(rt.alloc(), Part::Exp, sums, 2895), Refused(5));
+    assert_eq!(rt;
+        comes_to(rt.alloc(), Part::Exp, sums, 2896),
+        Outcome::Memory
+    );
+    let fault = chain(OPEN, b"x+", b"fn");
+    assert_eq!(rt; comes_to(rt.alloc(), Part::Exp, fault, 2895), Refused(5));
+    let fields = chain(b"f (f (f (f (f (f (f (f (f (f (x", b".A", b"");
+    assert_eq!(rt;
+        comes_to(rt.alloc(), Part::Exp, fields, 3976),
+        Outcome::Memory
+    );
+    let items = chain(OPEN, b"x::", b"x");
+    assert_eq!(rt;
+        comes_to(rt.alloc(), Part::Exp, items, 2896),
+        Outcome::Memory
+    );
 }

@@ -1,5 +1,5 @@
 -- Small declarations with what is declared behind them.
-use Rattle.std.proofs.Common.{◌≡◌, refl, true, List, [], ◌∷◌, Option, Some, None, ℕ}
+use Rattle.std.proofs.Common.{◌≡◌, refl, true, false, List, [], ◌∷◌, Option, Some, None, ℕ}
 use Rattle.std.specs.Prelude.{pos, codes, option_map}
 use Rattle.ur_base.specs.declared.refusal.Span.{Span}
 use Rattle.ur_syntax.specs.declared.con.Con.{Con}
@@ -91,6 +91,25 @@ table = refl
 
 other_key : tables_behind (codes "B") ≡ None
 other_key = refl
+
+-- `table t : {A : option int}`, and with `PRIMARY KEY A`; `cookie c : option int`
+abbrev option_int : Con
+option_int = written (con.App' tt (the_con at (con.Var (codes "option")) no_con) tt (the_con at int.form no_con))
+
+abbrev optional_behind : Option (List (List ℕ)) → Option (List TableShape)
+optional_behind key =
+    option_map (λ z. z.place.globals.tables.tables)
+    (behind (decl.Table (codes "t") (written (con.Record' (tt ∷ []) (a_record_field (field_name.Literal (codes "A")) at option_int.form no_record_field)))
+    key []))
+
+optional_column : optional_behind None ≡ Some (record { name = codes "M.t"; columns = (codes "A", column.OptInt) ∷ []; keys = []; primary = false } ∷ [])
+optional_column = refl
+
+optional_key : optional_behind (Some (codes "A" ∷ [])) ≡ None
+optional_key = refl
+
+option_cookie : option_map (λ z. z.cookies) (behind (decl.Cookie (codes "c") option_int)) ≡ None
+option_cookie = refl
 
 -- `fun f (x : int) : int = e`
 abbrev function : List ℕ → Con → ExpForm → FunDef

@@ -1,5 +1,6 @@
 pub mod Declared
 pub mod Examples
+pub mod Keyed
 pub mod Literals
 pub mod Parts
 pub mod Shapes

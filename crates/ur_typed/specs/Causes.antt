@@ -6,6 +6,7 @@ use Rattle.ur_syntax.specs.declared.xml.XmlForm.{items-the_row-XmlPart}
 use Rattle.ur_typed.specs.Rules.{capital_of, says_other, local_out, Sites, Out, Branches, Fields, Antiquotes, function_at, operator_of, left_mode, left_may, is_literally, are_literal_rest, with_query_slot, with_change_slot, with_query, query_at, is_option, is_list, row_param}
 use Rattle.ur_typed.specs.Walking.{vals_walk, walk, typed, branches_walk, fields_walk, antiquotes_walk}
 use Rattle.ur_xmltype.specs.Faults.{IsBadFrame}
+use Rattle.ur_sqltype.specs.Faults.{six_kinds}
 use Rattle.ur_sqltype.specs.SqltypeFaults.{QueryHasFault, ChangeHasFault}
 use Rattle.ur_typed.specs.Parts.{literal_of, StandsIn}
 use Rattle.ur_typed.specs.Faults.{given_to, BreaksParams, BreaksNamed, BreaksSpine, missing_argument, BreaksFoldRow, BreaksRowFunction, BreaksStep, no_step, BreaksPattern, BreaksParts}
@@ -46,7 +47,7 @@ use Rattle.ur_tree.specs.Places.{Sort, sort_of, place_of}
 use Rattle.ur_tree.specs.Places as places
 use Rattle.ur_xmltype.specs.Literal.{literal_sort, row_of_parts}
 use Rattle.ur_sqltype.specs.Lists.{all_of}
-use Rattle.ur_sqltype.specs.Table.{type_kind}
+use Rattle.ur_sqltype.specs.Table.{column_type_kind}
 use Rattle.ur_tree.specs.declared.exp.Param.{Param}
 use Rattle.ur_tree.specs.Heads.{Head}
 use Rattle.ur_tree.specs.IsStatic.{is_static}
@@ -105,13 +106,13 @@ abbrev pub is_record : ExpForm → Bool
 is_record (e.Record' n fields) = true
 is_record _ = false
 
--- a type of an antiquote that is none of the three
+-- a type of an antiquote that is none of the six
 pub data IsNoKind : List NormalType → NormalType → Type 0 where
-  this_kind : {t : NormalType} {ts : List NormalType} → type_kind t ≡ None → IsNoKind (t ∷ ts) t
+  this_kind : {t : NormalType} {ts : List NormalType} → column_type_kind t ≡ None → IsNoKind (t ∷ ts) t
   later_kind : {t u : NormalType} {ts : List NormalType} → IsNoKind ts u → IsNoKind (t ∷ ts) u
 
 abbrev pub no_kind : List (List ℕ) → NormalType → Fault
-no_kind names t = misfit (type_text names t) (codes "int, string or bool")
+no_kind names t = misfit (type_text names t) six_kinds
 
 -- The expression itself, in its scope and with what is wanted of it, breaks its rule. `names` are those of datatypes.
 pub data Breaks (names : List (List ℕ)) (w : World) : Scope → Sites → ExpForm → Mode → Fault → Type 0 where
@@ -203,11 +204,14 @@ pub data Breaks (names : List (List ℕ)) (w : World) : Scope → Sites → ExpF
   change_antiquote_kind : {s : Scope} {st : Sites} {m : Mode} {u : SqlChange} {n : Shape} {args : Row_of-Exp (count n)} {a : Antiquotes} {t : NormalType} → antiquotes_walk w args s (with_change_slot st) ≡ Some a → IsNoKind a.types t →
       Breaks names w s st (e.Dml' u n args) m (no_kind names t)
   bad_query : {s : Scope} {st : Sites} {m : Mode} {how : QueryWord} {q : SqlQuery} {n : Shape} {args : Row_of-Exp (count n)} {a : Antiquotes} {kinds : List ColumnKind} {r : Refusal} → antiquotes_walk w args s (with_query_slot st) ≡ Some a →
-      all_of type_kind a.types ≡ Some kinds → QueryHasFault w.globals.home w.globals.tables w.fields kinds q r → Breaks names w s st (e.Query' how q n args) m (as_refused r)
+      all_of column_type_kind a.types ≡ Some kinds → QueryHasFault w.globals.home w.globals.tables w.fields kinds q r → Breaks names w s st
+      (e.Query' how q n args) m (as_refused r)
   bad_change : {s : Scope} {st : Sites} {m : Mode} {u : SqlChange} {n : Shape} {args : Row_of-Exp (count n)} {a : Antiquotes} {kinds : List ColumnKind} {r : Refusal} → antiquotes_walk w args s (with_change_slot st) ≡ Some a →
-      all_of type_kind a.types ≡ Some kinds → ChangeHasFault w.globals.home w.globals.tables kinds u r → Breaks names w s st (e.Dml' u n args) m (as_refused r)
+      all_of column_type_kind a.types ≡ Some kinds → ChangeHasFault w.globals.home w.globals.tables kinds u r → Breaks names w s st (e.Dml' u n args) m
+      (as_refused r)
   bad_rows : {s : Scope} {st : Sites} {m : Mode} {q : SqlQuery} {n : Shape} {args : Row_of-Exp (count n)} {p : Span} {g : ExpForm} {a : Antiquotes} {kinds : List ColumnKind} {r : Refusal} → antiquotes_walk w args s (with_query_slot st) ≡ Some a →
-      all_of type_kind a.types ≡ Some kinds → QueryHasFault w.globals.home w.globals.tables w.fields kinds q r → Breaks names w s st (e.QueryX' q n args tt (its p g alone)) m (as_refused r)
+      all_of column_type_kind a.types ≡ Some kinds → QueryHasFault w.globals.home w.globals.tables w.fields kinds q r → Breaks names w s st
+      (e.QueryX' q n args tt (its p g alone)) m (as_refused r)
   no_row_function : {s : Scope} {st : Sites} {m : Mode} {q : SqlQuery} {n : Shape} {args : Row_of-Exp (count n)} {p : Span} {g : ExpForm} → is_lambda g ≡ false → Breaks names w s st (e.QueryX' q n args tt (its p g alone)) m (not_so (codes "a function") (codes "fn x => e"))
   bad_row_function : {s : Scope} {st : Sites} {m : Mode} {q : SqlQuery} {n : Shape} {args : Row_of-Exp (count n)} {p r : Span} {params : List LambdaParam} {y : ExpForm} {a : Antiquotes} {d : Query} {f : Fault} → antiquotes_walk w args s (with_query_slot st) ≡ Some a →
       query_at w q a ≡ Some d → BreaksRowFunction names w s (query_row w.fields d) params f → Breaks names w s st (e.QueryX' q n args tt (its p (e.Lambda' params tt (its r y alone)) alone)) m f

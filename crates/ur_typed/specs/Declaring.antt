@@ -46,7 +46,8 @@ use Rattle.ur_typed_rules.specs.Scopes.{World, Scope, wants}
 use Rattle.ur_typed_rules.specs.Tests.{same_type, is_type, are_params, con_rows_are_apart, is_page}
 use Rattle.ur_sqltype.specs.declared.keys.SqlKey.{SqlKey}
 use Rattle.ur_sqltype.specs.Lists.{all_of, repeated}
-use Rattle.ur_sqltype.specs.Table.{type_kind, column_from, record_row, key_of, has_primary}
+use Rattle.ur_sqltype.specs.Expression.{is_optional}
+use Rattle.ur_sqltype.specs.Table.{type_kind, column_from, record_row, key_of, kind_at, has_primary}
 use Rattle.ur_rows.specs.declared.normal.Normal.TheVariants as normal
 use Rattle.ur_typed.specs.Rules.{Sites, Out}
 use Rattle.ur_typed.specs.Walking.{typed}
@@ -133,8 +134,16 @@ with_datatype home x z = record z { place = with_entry x kind.Star (meaning.Data
 abbrev pub shape_with : List ℕ → List SqlKey → List (List ℕ × ColumnKind) → List (List ℕ) → TableShape
 shape_with name keys columns places = record { name = name; columns = columns; keys = places; primary = has_primary keys }
 
+-- no column of the key is optional
+abbrev pub has_no_option : List (List ℕ × ColumnKind) → List ℕ → Bool
+has_no_option columns places = list_all (λ n. not (is_optional (kind_at columns n))) places
+
+abbrev pub plain_shape : List ℕ → List SqlKey → List (List ℕ × ColumnKind) → List (List ℕ) → Option TableShape
+plain_shape name keys columns places = if_so (list_all (has_no_option columns) places) (Some (shape_with name keys columns places))
+
+-- a key has no column twice and no optional one
 abbrev pub keyed_shape : List ℕ → List SqlKey → List (List ℕ × ColumnKind) → List (List ℕ) → Option TableShape
-keyed_shape name keys columns places = if_so (list_all (λ k. is_none (repeated nat_eq k)) places) (Some (shape_with name keys columns places))
+keyed_shape name keys columns places = if_so (list_all (λ k. is_none (repeated nat_eq k)) places) (plain_shape name keys columns places)
 
 abbrev pub columns_shape : List ℕ → List SqlKey → List (List ℕ × ColumnKind) → Option TableShape
 columns_shape name keys columns = if_so (is_none (repeated bytes_eq (map (λ c. c.0) columns))) (option_and_then (keyed_shape name keys columns) (all_of (key_of columns) keys))

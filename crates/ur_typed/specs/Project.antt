@@ -22,6 +22,7 @@ use Rattle.ur_syntax.specs.declared.exp.Exp.{Exp as WrittenExp}
 use Rattle.ur_syntax.specs.declared.exp.Param.{Param as WrittenParam}
 use Rattle.ur_values.specs.declared.schema.ColumnKind.{ColumnKind}
 use Rattle.ur_values.specs.declared.schema.TableShape.{TableShape}
+use Rattle.ur_values.specs.Kinds.{inside}
 use Rattle.ur_rows.specs.declared.normal.Normal.{Normal}
 use Rattle.ur_rows.specs.declared.normal.NormalType.{NormalType}
 use Rattle.ur_rows.specs.declared.normal.Part.{Part}
@@ -158,7 +159,8 @@ pub data DeclResolves (app : Typed) (most : ℕ) (home : ℕ) : Place → DeclFo
       DeclResolves app most home p (decl.Table x c primary cs) (with_table shape p)
   sequence : {p : Place} {x m : List ℕ} → slice_get app.modules home ≡ Some m → slice_get app.schema.sequences (length p.globals.sequences) ≡ Some (name_text (Some m) x) →
       DeclResolves app most home p (decl.Sequence x) (with_sequence x p)
-  cookie : {p : Place} {x m : List ℕ} {c : Con} {k : ColumnKind} → WritesType most (env_at p) c (kind_type k) → slice_get app.modules home ≡ Some m →
+  cookie : {p : Place} {x m : List ℕ} {c : Con} {k : ColumnKind} → WritesType most (env_at p) c (kind_type k) → inside k ≡ None →
+      slice_get app.modules home ≡ Some m →
       slice_get app.cookies (length p.globals.cookies) ≡ Some (name_text (Some m) x, k) → DeclResolves app most home p (decl.Cookie x c) (with_cookie x p)
   val : {p : Place} {x : List ℕ} {c : Con} {e : WrittenExp} {d : ModuleVal} → WritesType most (env_at p) c d.of →
       Resolves (statements app) most p.globals (declared_of app) (names_at p) e.form d.body → slice_get app.vals p.vals ≡ Some d → DeclResolves app most home p (decl.Val x c e) (with_val x p)

@@ -43,7 +43,7 @@ use Rattle.ur_tree.specs.Places.{sort_of}
 use Rattle.ur_tree.specs.Scalars.{kind_type, is_basic}
 use Rattle.ur_tree.specs.QueryRow.{query_row}
 use Rattle.ur_sqltype.specs.Lists.{all_of}
-use Rattle.ur_sqltype.specs.Table.{type_kind}
+use Rattle.ur_sqltype.specs.Table.{column_type_kind}
 use Rattle.ur_tree.specs.declared.exp.Unary.{Unary}
 use Rattle.ur_tree.specs.declared.exp.Unary.TheVariants as unary
 use Rattle.ur_tree.specs.declared.exp.Binary.{Binary}
@@ -489,10 +489,10 @@ with_change n u st = record { queries = st.queries; changes = set st.changes n (
 
 -- the core query of a written one at its antiquotes
 abbrev pub query_at : World → SqlQuery → Antiquotes → Option Query
-query_at w q a = option_and_then (λ kinds. query_of w.globals.home w.globals.tables w.fields kinds q) (all_of type_kind a.types)
+query_at w q a = option_and_then (λ kinds. query_of w.globals.home w.globals.tables w.fields kinds q) (all_of column_type_kind a.types)
 
 abbrev pub change_at : World → SqlChange → Antiquotes → Option Change
-change_at w u a = option_and_then (λ kinds. change_of w.globals.home w.globals.tables kinds u) (all_of type_kind a.types)
+change_at w u a = option_and_then (λ kinds. change_of w.globals.home w.globals.tables kinds u) (all_of column_type_kind a.types)
 
 abbrev pub answer_of : QueryWord → AnswerForm
 answer_of word.QueryL = answer.All

@@ -44,7 +44,7 @@ use Rattle.ur_disjoint.proofs.Members.{in-contains}
 use Rattle.ur_tree.specs.declared.exp.Exp.TheVariants as exp
 use Rattle.ur_typed_faults.proofs.Refused.{bad_tag-none, bad_frame-none}
 use Rattle.ur_sqltype.specs.Lists.{all_of}
-use Rattle.ur_sqltype.specs.Table.{type_kind}
+use Rattle.ur_sqltype.specs.Table.{column_type_kind}
 use Rattle.ur_sqltype.specs.SqltypeFaults.{FaultyQueryIsNone, FaultyChangeIsNone}
 use Rattle.ur_tree.specs.IsStatic.{is_static}
 use Rattle.ur_tree.specs.Typing.{are_linkable, step_rest}
@@ -204,7 +204,7 @@ no_step_lambda : (w : World) (s : Scope) (st : Sites) (t : NormalType) (p : Span
 no_step_lambda w s st t p (e.Lambda' ps _ x) h = cc
 no_step_lambda w s st t p _ h = refl
 
-no_kind_none : (ts : List NormalType) (t : NormalType) → IsNoKind ts t → all_of type_kind ts ≡ None
+no_kind_none : (ts : List NormalType) (t : NormalType) → IsNoKind ts t → all_of column_type_kind ts ≡ None
 no_kind_none _ _ (this_kind h) = first_none _ _ h
 no_kind_none _ t (later_kind {ts = ts} r) = never _ _ (λ a. map_none _ _ (no_kind_none ts t r))
 

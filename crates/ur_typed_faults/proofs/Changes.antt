@@ -1,7 +1,7 @@
 -- A change that has no core has a fault.
-use Rattle.std.proofs.Common.{inl, inr, ◌≡◌, refl, sym, subst, ℕ, List, [], map, length, Option, Some, None, nat_eq}
+use Rattle.std.proofs.Common.{inl, inr, ◌≡◌, refl, sym, subst, ℕ, Bool, true, false, List, [], map, length, Option, Some, None, nat_eq}
 use Rattle.std.specs.Fmt.{decimal}
-use Rattle.std.specs.Prelude.{codes}
+use Rattle.std.specs.Prelude.{codes, if◌then◌else◌, option_and_then}
 use Rattle.ur_base.specs.declared.refusal.Refusal.{Refusal}
 use Rattle.ur_base.specs.declared.refusal.Span.{Span}
 use Rattle.ur_syntax.specs.declared.sql.DeclName.{DeclName}
@@ -11,10 +11,12 @@ use Rattle.ur_syntax.specs.declared.sql.SqlChange.TheVariants as change
 use Rattle.ur_values.specs.declared.schema.ColumnKind.{ColumnKind}
 use Rattle.ur_values.specs.declared.schema.ColumnKind.TheVariants as kind
 use Rattle.ur_values.specs.declared.schema.TableShape.{TableShape}
+use Rattle.ur_sql.specs.declared.scalar.Scalar.TheVariants as scalar
 use Rattle.ur_sql.specs.declared.change.Action.TheVariants as action
 use Rattle.ur_sqltype.specs.declared.scope.Within.{Within}
 use Rattle.ur_sqltype.specs.Scope.{column_of}
-use Rattle.ur_sqltype.specs.Faults.{Misfits}
+use Rattle.ur_sqltype.specs.Expression.{kinded, is_null, is_optional, as_kind, valued}
+use Rattle.ur_sqltype.specs.Faults.{kind_text, Misfits, MisfitsColumn, null_given, value_given}
 use Rattle.ur_sqltype.specs.Lists.{all_of, repeated}
 use Rattle.ur_sqltype.specs.Table.{name_at}
 use Rattle.ur_sqltype.specs.Tables.{table_at}
@@ -26,11 +28,20 @@ use Rattle.ur_typed_faults.specs.SqlcauseLawsConverse.{NoneChangeIsFaulty}
 use Rattle.ur_typed_faults.proofs.Lacking.{refused, then_none_is, map_none_is, maybe_none_is, found_is, test_is, branch_is, unequal, Lacks, lacks}
 use Rattle.ur_typed_faults.proofs.Queries.{unfit}
 
+-- what is given is no value of the column
+misfits : (w : Within) (k : ColumnKind) (e : SqlExp) → valued k w e ≡ None → (r : Refusal) × MisfitsColumn w e.form k r
+misfits w k e h = by (is_null e.form) refl h where
+  by : (n : Bool) → is_null e.form ≡ n →
+      (if n then (if is_optional k then Some (scalar.Null k) else None) else option_and_then (as_kind k) (kinded w e.form)) ≡ None →
+      (r : Refusal) × MisfitsColumn w e.form k r
+  by true en g = (refused 12 refl (codes "NULL") (kind_text k), null_given en (test_is (is_optional k) (scalar.Null k) g) (refl, refl, refl))
+  by false en g = let m : (r : Refusal) × Misfits w e.form k r = unfit w e k g in (m.0, value_given en m.1)
+
 set_faulty : (w : Within) (columns : List (List ℕ × ColumnKind)) (p : List ℕ × SqlExp) → set_at w columns p ≡ None → (r : Refusal) × SetBreaks w columns p r
 set_faulty w columns p h = elim (then_none_is (set_of w p.1) (column_of p.0 columns) h) [
-  | inl a ↦ (refused 7 p.0 [], fault.column_unknown a (refl, refl, refl))
+  | inl a ↦ (refused 7 refl p.0 [], fault.column_unknown a (refl, refl, refl))
   | inr c ↦
-      let m : (r : Refusal) × Misfits w p.1.form c.0.1 r = unfit w p.1 c.0.1 (map_none_is (λ x. (c.0.0, x)) (of_kind c.0.1 w p.1) c.2) in
+      let m : (r : Refusal) × MisfitsColumn w p.1.form c.0.1 r = misfits w c.0.1 p.1 (map_none_is (λ x. (c.0.0, x)) (valued c.0.1 w p.1) c.2) in
       (m.0, fault.value_misfits c.0.0 c.0.1 c.1 m.1)
 ]
 
@@ -42,7 +53,7 @@ sets_faulty w columns ps h = elim (then_none_is once_set (all_of (set_at w colum
       (b.0, fault.in_set l.0 l.1 b.1)
   | inr s ↦
       let t : (n : ℕ) × (repeated nat_eq (map set_number s.0) ≡ Some n) = found_is (repeated nat_eq (map set_number s.0)) s.0 s.2 in
-      (refused 8 (name_at columns t.0) [], fault.set_twice s.0 t.0 s.1 t.1 (refl, refl, refl))
+      (refused 8 refl (name_at columns t.0) [], fault.set_twice s.0 t.0 s.1 t.1 (refl, refl, refl))
 ]
 
 condition_faulty : (kinds : List ColumnKind) (t : ℕ × TableShape) (u : SqlChange) (w : Within) (condition : Option SqlExp) → ((e : SqlExp) → condition ≡ Some e → ConditionOf kinds t u w e) → condition_of w condition ≡ None → (r : Refusal) × ActBreaks kinds t u r
@@ -56,12 +67,12 @@ with_sets kinds t u w ps s h = let b : (r : Refusal) × SetsBreak w t.1.columns 
 
 insert_faulty : (kinds : List ColumnKind) (t : ℕ × TableShape) (p : Span) (x : DeclName) (columns : List (List ℕ)) (values : List SqlExp) → action_of kinds t (change.Insert p x columns values) ≡ None → (r : Refusal) × ActBreaks kinds t (change.Insert p x columns values) r
 insert_faulty kinds t p x columns values h = elim (branch_is (nat_eq (length columns) (length values)) (complete_of kinds t.1 columns values) h) [
-  | inl a ↦ (refused 12 (decimal (length values)) (decimal (length columns)), fault.in_insert p x columns values refl (fault.other_number (unequal (length columns) (length values) a) (refl, refl, refl)))
+  | inl a ↦ (refused 12 refl (decimal (length values)) (decimal (length columns)), fault.in_insert p x columns values refl (fault.other_number (unequal (length columns) (length values) a) (refl, refl, refl)))
   | inr b ↦ elim (then_none_is (inserting t.1 columns) (sets_of (within_insert kinds) t.1.columns (paired columns values)) b) [
     | inl c ↦ with_sets kinds t (change.Insert p x columns values) (within_insert kinds) (paired columns values) (fault.inserts p x columns values) c
     | inr s ↦
         let shape : TableShape = t.1 in (
-          refused 12 (codes "no value") (missing_name columns shape.columns),
+          refused 12 refl (codes "no value") (missing_name columns shape.columns),
           fault.in_insert p x columns values refl
               (fault.column_missing (unequal (length columns) (length shape.columns) (test_is (nat_eq (length columns) (length shape.columns)) (action.Insert s.0) s.2)) (refl, refl, refl)),
         )
@@ -79,7 +90,7 @@ act_faulty kinds t (change.Delete p x condition) h = condition_faulty kinds t (c
 pub change_faulty : NoneChangeIsFaulty
 unfolding change_of
 change_faulty m tables kinds u h = elim (then_none_is (change_at kinds u) (table_at m tables (target_of u)) h) [
-  | inl a ↦ (refused 7 (table_text (target_of u)) [], fault.no_target a (refl, refl, refl))
+  | inl a ↦ (refused 7 refl (table_text (target_of u)) [], fault.no_target a (refl, refl, refl))
   | inr t ↦
       let b : (r : Refusal) × ActBreaks kinds t.0 u r = act_faulty kinds t.0 u (map_none_is (change_with kinds t.0) (action_of kinds t.0 u) t.2) in
       (b.0, fault.acts t.0.0 t.0.1 t.1 b.1)

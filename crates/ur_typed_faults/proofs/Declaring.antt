@@ -28,10 +28,11 @@ use Rattle.ur_typed_rules.specs.Names.{Names}
 use Rattle.ur_typed_rules.specs.Tests.{is_type, are_params}
 use Rattle.ur_sqltype.specs.declared.keys.SqlKey.{SqlKey}
 use Rattle.ur_sqltype.specs.Lists.{all_of, repeated}
-use Rattle.ur_sqltype.specs.Table.{type_kind, column_from, place_of, key_of}
-use Rattle.ur_sqltype.specs.SqltableFaults.{KeyBreaks, key_unknown, key_twice, RowBreaks, no_column, column_twice, in_keys, TableBreaks, no_record, in_row}
+use Rattle.ur_sqltype.specs.Expression.{is_optional}
+use Rattle.ur_sqltype.specs.Table.{type_kind, column_from, place_of, key_of, kind_at}
+use Rattle.ur_sqltype.specs.SqltableFaults.{KeyBreaks, key_unknown, key_twice, key_optional, RowBreaks, no_column, column_twice, in_keys, TableBreaks, no_record, in_row}
 use Rattle.ur_typed.specs.Project.{written_keys}
-use Rattle.ur_typed.specs.Declaring.{Sofar, may_be_defined, argument_out, variant_out, variants_out, with_datatype, shape_out, columns_shape, keyed_shape, full_name, table_out, cookie_out, ConParams, and_con, small_row, con_params_out, all_params_out, head_fits, con_param_fits, heading_out, headings_out, with_head, val_type_out, decl_out, Bodies, world_behind, top_scope, body_scope, datatype_names, group_out, bodies_out, Checked, decls_out, entered, modules_out, entry_by, entry_out, entries_out}
+use Rattle.ur_typed.specs.Declaring.{Sofar, may_be_defined, argument_out, variant_out, variants_out, with_datatype, shape_out, columns_shape, has_no_option, keyed_shape, full_name, table_out, cookie_out, ConParams, and_con, small_row, con_params_out, all_params_out, head_fits, con_param_fits, heading_out, headings_out, with_head, val_type_out, decl_out, Bodies, world_behind, top_scope, body_scope, datatype_names, group_out, bodies_out, Checked, decls_out, entered, modules_out, entry_by, entry_out, entries_out}
 use Rattle.ur_typed.specs.DeclFaults.{form_of, type_of, BreaksDefined, large_con, rows_meet, BreaksArgument, argument_type, argument_moves, BreaksVariants, this_variant, later_variant, BreaksTable, large_table, no_table, BreaksCookie, large_cookie, other_cookie, HasLargeSide, large_left, large_right, behind_kinded, behind_apart, HasLargeParam, this_large, later_large, BreaksHeadParams, this_param, later_param, BreaksHead, side_unkinded, bad_param, result_out_of_place, result_arrow, BreaksHeading, large_side, large_param, large_result, bad_head, BreaksHeadings, this_heading, later_heading, BreaksVal, large_val, bad_val, BreaksDecl, in_con, in_datatype, in_table, in_cookie, in_val, in_functions, GroupHasFault, this_body, later_body, BodiesHaveFault, in_right_side, right_side_moves, in_group, DeclsHaveFault, in_head, in_bodies, in_later_decl, ModulesHaveFault, in_module, in_later_module, BreaksEntry, unknown_entry, val_entry, large_entry, other_entry, no_page, no_link, EntriesHaveFault, this_entry, later_entry, in_modules, in_signature, FaultyProjectIsNone}
 use Rattle.ur_typed.specs.DeclFaults as faults
 use Rattle.ur_typed_rules.specs.Scopes.{wants}
@@ -87,9 +88,20 @@ twice_none : (name : List ℕ) (keys : List SqlKey) (columns : List (List ℕ ×
 twice_none name keys columns key places n i e t None eo = refl
 twice_none name keys columns key places n i e t (Some pss) eo = so_false _ _ (not_all (λ k. is_none (repeated nat_eq k)) places pss (given_in (key_of columns) keys key places pss i e eo) (ap is_none t))
 
+option_none : (name : List ℕ) (keys : List SqlKey) (columns : List (List ℕ × ColumnKind)) (key : SqlKey) (places : List ℕ) (n : ℕ) → In key keys →
+    key_of columns key ≡ Some places → In n places → is_optional (kind_at columns n) ≡ true → (o : Option (List (List ℕ))) →
+    all_of (key_of columns) keys ≡ o →
+    option_and_then (keyed_shape name keys columns) o ≡ None
+option_none name keys columns key places n i e c q None eo = refl
+option_none name keys columns key places n i e c q (Some pss) eo =
+    so_none _ _ (so_false _ _ (not_all (has_no_option columns) places pss (given_in (key_of columns) keys key places pss i e eo)
+    (not_all (λ m. not (is_optional (kind_at columns m))) n places c (ap not q))))
+
 key_none : (name : List ℕ) (keys : List SqlKey) (columns : List (List ℕ × ColumnKind)) (key : SqlKey) (r : Refusal) → In key keys → KeyBreaks columns key.columns r → option_and_then (keyed_shape name keys columns) (all_of (key_of columns) keys) ≡ None
 key_none name keys columns key r i (key_unknown a c n) = first_none _ _ (all_of_none (key_of columns) keys key i (all_of_none (place_of columns) key.columns a (in-contains a key.columns c) n.none))
 key_none name keys columns key r i (key_twice places n e t s) = twice_none name keys columns key places n i e t (all_of (key_of columns) keys) refl
+key_none name keys columns key r i (key_optional places n e o c q s) =
+    option_none name keys columns key places n i e (in-contains n places c) q (all_of (key_of columns) keys) refl
 
 row_none : (name : List ℕ) (keys : List SqlKey) (names : List (List ℕ)) (row : List RowPart) (r : Refusal) → RowBreaks names row keys r → option_and_then (columns_shape name keys) (all_of column_from row) ≡ None
 row_none name keys names row r (no_column n) = first_none _ _ (all_of_none column_from row n.place (in-contains n.place row n.stands) n.fault.none)

@@ -32,7 +32,7 @@ use Rattle.ur_tree.specs.Places.{sort_of, Sort}
 use Rattle.ur_tree.specs.Scalars.{kind_type}
 use Rattle.ur_tree.specs.QueryRow.{query_row}
 use Rattle.ur_sqltype.specs.Lists.{all_of}
-use Rattle.ur_sqltype.specs.Table.{type_kind}
+use Rattle.ur_sqltype.specs.Table.{column_type_kind}
 use Rattle.ur_sqltype.specs.SqltypeFaults.{QueryHasFault, ChangeHasFault}
 use Rattle.ur_tree.specs.declared.exp.Param.{Param}
 use Rattle.ur_tree.specs.declared.exp.Exp.TheVariants as exp
@@ -230,20 +230,22 @@ antiquotes_explained names w s _ (its {n = n} p x rest) k st h = elim (then_none
       record { behind = b.behind; part = b.part; stands = later_antiquote o.1 b.stands; faulty = b.faulty }
 ]
 
-no_kind_of : (ts : List NormalType) → all_of type_kind ts ≡ None → (t : NormalType) × IsNoKind ts t
+no_kind_of : (ts : List NormalType) → all_of column_type_kind ts ≡ None → (t : NormalType) × IsNoKind ts t
 no_kind_of [] h = absurd (some_none h)
-no_kind_of (t ∷ ts) h = elim (then_none_is (λ k. option_map (λ rest. k ∷ rest) (all_of type_kind ts)) (type_kind t) h) [
+no_kind_of (t ∷ ts) h = elim (then_none_is (λ k. option_map (λ rest. k ∷ rest) (all_of column_type_kind ts)) (column_type_kind t) h) [
   | inl a ↦ (t, this_kind a)
-  | inr k ↦ let q : (u : NormalType) × IsNoKind ts u = no_kind_of ts (map_none_is (λ rest. k.0 ∷ rest) (all_of type_kind ts) k.2) in (q.0, later_kind q.1)
+  | inr k ↦ let q : (u : NormalType) × IsNoKind ts u = no_kind_of ts (map_none_is (λ rest. k.0 ∷ rest) (all_of column_type_kind ts) k.2) in
+      (q.0, later_kind q.1)
 ]
 
 -- a query that has no core at its antiquotes
 data QueryFault (w : World) (q : SqlQuery) (a : Antiquotes) : Type 0 where
   of_kind_none : {t : NormalType} → IsNoKind a.types t → QueryFault w q a
-  of_query : {kinds : List ColumnKind} {r : Refusal} → all_of type_kind a.types ≡ Some kinds → QueryHasFault w.globals.home w.globals.tables w.fields kinds q r → QueryFault w q a
+  of_query : {kinds : List ColumnKind} {r : Refusal} → all_of column_type_kind a.types ≡ Some kinds →
+      QueryHasFault w.globals.home w.globals.tables w.fields kinds q r → QueryFault w q a
 
 query_fault : (w : World) (q : SqlQuery) (a : Antiquotes) → query_at w q a ≡ None → QueryFault w q a
-query_fault w q a h = elim (then_none_is (λ kinds. query_of w.globals.home w.globals.tables w.fields kinds q) (all_of type_kind a.types) h) [
+query_fault w q a h = elim (then_none_is (λ kinds. query_of w.globals.home w.globals.tables w.fields kinds q) (all_of column_type_kind a.types) h) [
   | inl n ↦ let t : (t : NormalType) × IsNoKind a.types t = no_kind_of a.types n in of_kind_none t.1
   | inr k ↦ let r : (r : Refusal) × QueryHasFault w.globals.home w.globals.tables w.fields k.0 q r = query_faulty w.globals.home w.globals.tables w.fields k.0 q k.2 in of_query k.1 r.1
 ]
@@ -270,7 +272,7 @@ change_explained names w u n args k = explained_by names w (e.Dml' u n args) (λ
     elim (then_none_is (λ a. option_and_then (written_of st a) (change_at w u a)) (antiquotes_walk w args s (with_change_slot st)) h) [
       | inl z ↦ let b : BadAntiquote names w s _ args (with_change_slot st) = antiquotes_explained names w s _ args k (with_change_slot st) z in part_faulty (Parts.change_antiquote b.stands) b.faulty
       | inr a ↦ elim (then_none_is (written_of st a.0) (change_at w u a.0) a.2) [
-        | inl z ↦ elim (then_none_is (λ kinds. change_of w.globals.home w.globals.tables kinds u) (all_of type_kind a.0.types) z) [
+        | inl z ↦ elim (then_none_is (λ kinds. change_of w.globals.home w.globals.tables kinds u) (all_of column_type_kind a.0.types) z) [
           | inl y ↦ let t : (t : NormalType) × IsNoKind a.0.types t = no_kind_of a.0.types y in here_faulty _ (Causes.change_antiquote_kind a.1 t.1)
           | inr c ↦ let r : (r : Refusal) × ChangeHasFault w.globals.home w.globals.tables c.0 u r = change_faulty w.globals.home w.globals.tables c.0 u c.2 in here_faulty _ (Causes.bad_change a.1 c.1 r.1)
         ]

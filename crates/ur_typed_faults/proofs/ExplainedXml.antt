@@ -139,13 +139,15 @@ nowhere = record { file = 0; «from» = 0; to = 0 }
 bad_tag_of : (l : Option Label) (p : Place) (t : WrittenTag) (attrs : List Attr) (bare : Bool) → node_with l p t attrs bare ≡ None → (r : Refusal) × IsBadTag l p t attrs bare r
 bad_tag_of l p t attrs bare h = by_name (repeated attrs) refl where
   by_name : (o : Option (List ℕ)) → repeated attrs ≡ o → (r : Refusal) × IsBadTag l p t attrs bare r
-  by_name (Some x) i = (record { code = 8; span = nowhere; left = x; right = [] }, twice i (refl, refl, refl))
-  by_name None i = (record { code = 13; span = nowhere; left = t.word; right = apart_from t.word (place_text p) }, misplaced i h (refl, refl, refl))
+  by_name (Some x) i = (record { code = 8; span = nowhere; left = x; right = []; named = refl }, twice i (refl, refl, refl))
+  by_name None i =
+      (record { code = 13; span = nowhere; left = t.word; right = apart_from t.word (place_text p); named = refl }, misplaced i h (refl, refl, refl))
 
 bad_frame_of : (s : Sort) (n : Count) (inner : Row_of-XmlPart n) → is_framed s inner ≡ false → (r : Refusal) × IsBadFrame s (items-the_row-XmlPart n inner) r
 bad_frame_of s n inner h = by_fault (fault_of_sort s (items-the_row-XmlPart n inner)) refl h where
   by_fault : (o : Option (List ℕ)) → fault_of_sort s (items-the_row-XmlPart n inner) ≡ o → is_none o ≡ false → (r : Refusal) × IsBadFrame s (items-the_row-XmlPart n inner) r
-  by_fault (Some x) i g = (record { code = 13; span = nowhere; left = x; right = apart_from x (place_text places.in_page) }, record { part = x; breaks = i; told = (refl, refl, refl) })
+  by_fault (Some x) i g =
+      (record { code = 13; span = nowhere; left = x; right = apart_from x (place_text places.in_page); named = refl }, record { part = x; breaks = i; told = (refl, refl, refl) })
   by_fault None i g = absurd (true≢false g)
 
 -- ---- parts

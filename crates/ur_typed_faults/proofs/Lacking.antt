@@ -1,18 +1,18 @@
 -- Why answers made of answers are not there.
 use Rattle.std.proofs.lemmas.Bool.Decides.{nat_tests}
 use Rattle.std.proofs.Common.{inl, inr, ◌⊎◌, ◌≡◌, ◌∙◌, refl, sym, ap, ℕ, suc, ◌<◌, Bool, true, false, true≢false, List, [], ◌∷◌, ◌++◌, length, Option, Some, None, arith}
-use Rattle.std.specs.Prelude.{◌≢◌, ◌≤◌, ◌^◌, nat_lt, nat_eq, if◌then◌else◌, Contains, option_map, option_and_then}
+use Rattle.std.specs.Prelude.{◌≢◌, IsTrue, ◌≤◌, ◌^◌, nat_lt, nat_eq, if◌then◌else◌, Contains, option_map, option_and_then}
 use Rattle.std.specs.List.{flat_map}
 use Rattle.ur_values.specs.declared.schema.ColumnKind.{ColumnKind}
 use Rattle.ur_values.specs.declared.schema.ColumnKind.TheVariants as kind
+use Rattle.ur_base.specs.Codes.{is_refusal_code}
 use Rattle.ur_base.specs.declared.refusal.Refusal.{Refusal}
-use Rattle.ur_sqltype.specs.Expression.{same_kind}
 use Rattle.ur_sqltype.specs.Lists.{and_then, all_of, maybe}
 use Rattle.ur_sqltype.specs.Choice.{if_none}
 
 -- what a refusal tells, wherever it stands
-abbrev pub refused : ℕ → List ℕ → List ℕ → Refusal
-refused c x y = record { code = c; span = record { file = 0; «from» = 0; to = 0 }; left = x; right = y }
+abbrev pub refused : (c : ℕ) → IsTrue (is_refusal_code c) → List ℕ → List ℕ → Refusal
+refused c named x y = record { code = c; span = record { file = 0; «from» = 0; to = 0 }; left = x; right = y; named = named }
 
 pub some_none : {A : Type 0} {x : A} → Some x ≡ None → ⊥
 some_none e = cc
@@ -50,10 +50,10 @@ same_number a = grind (arith, nat_tests)
 pub unequal : (a b : ℕ) → nat_eq a b ≡ false → a ≢ b
 unequal a b h e = true≢false (sym (same_number b) ∙ ap (λ z. nat_eq z b) (sym e) ∙ h)
 
-pub not_same : (j k : ColumnKind) → same_kind j k ≡ false → j ≢ k
-not_same kind.Int _ f e = true≢false (ap (same_kind kind.Int) e ∙ f)
-not_same kind.Str _ f e = true≢false (ap (same_kind kind.Str) e ∙ f)
-not_same kind.Bool _ f e = true≢false (ap (same_kind kind.Bool) e ∙ f)
+-- the other branch
+pub test_holds : {A : Type 0} (b : Bool) (a : A) → (if b then None else Some a) ≡ None → b ≡ true
+test_holds true a h = refl
+test_holds false a h = absurd (some_none h)
 
 -- ---- lists
 

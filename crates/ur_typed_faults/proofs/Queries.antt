@@ -25,33 +25,42 @@ use Rattle.ur_sql.specs.declared.query.Field.TheVariants as field
 use Rattle.ur_sql.specs.declared.query.Aggregate.TheVariants as aggregate
 use Rattle.ur_sql.specs.declared.query.Bound.TheVariants as bound
 use Rattle.ur_sqltype.specs.declared.scope.Within.{Within}
-use Rattle.ur_sqltype.specs.Expression.{Kinded, kinded, same_kind}
-use Rattle.ur_sqltype.specs.Faults.{Misfits, faulty, other_kind, kind_text}
+use Rattle.ur_sqltype.specs.Expression.{Kinded, kinded, same_kind, as_kind, is_optional}
+use Rattle.ur_sqltype.specs.Faults.{Misfits, faulty, other_kind, kind_text, three_kinds}
 use Rattle.ur_sqltype.specs.Lists.{all_of, maybe, repeated}
 use Rattle.ur_sqltype.specs.Tables.{source_of, source_at, sources_of, table_at}
-use Rattle.ur_sqltype.specs.Query.{if_kind, of_kind, of_some_kind, on_of, ons_of, as_column, column_in, aggregated, ordered, int_param, limited, name_of, column_form, selected_columns, named_form, named_field, same_column, once_chosen, chosen_of, named_of, fields_with, all_fields, once_named, fields_of, field_number, alias_fields, in_order, is_descending, begun, reads, with_on, with_filter, with_fields, with_group, with_order, with_limit, with_offset, to_filter, to_fields, to_group, to_order, to_limit, stated, once_aliased, items_of, outside, well_grouped, query_over, query_of}
+use Rattle.ur_sqltype.specs.Query.{of_kind, of_some_kind, if_basic, of_basic_kind, on_of, ons_of, as_column, column_in, aggregated, ordered, int_param, limited, name_of, column_form, selected_columns, named_form, named_field, same_column, once_chosen, chosen_of, named_of, fields_with, all_fields, once_named, fields_of, field_number, alias_fields, in_order, is_descending, begun, reads, with_on, with_filter, with_fields, with_group, with_order, with_limit, with_offset, to_filter, to_fields, to_group, to_order, to_limit, stated, once_aliased, items_of, outside, well_grouped, query_over, query_of}
 use Rattle.ur_sqltype.specs.SqltypeFaults as fault
-use Rattle.ur_sqltype.specs.SqltypeFaults.{Selects, BoundBreaks, ColumnBreaks, AggregateBreaks, ItemBreaks, Breaks, column_text, table_text, QueryHasFault}
+use Rattle.ur_sqltype.specs.SqltypeFaults.{Selects, BoundBreaks, ColumnBreaks, BasicBreaks, AggregateBreaks, ItemBreaks, Breaks, column_text, table_text, QueryHasFault}
+use Rattle.ur_sqltype.proofs.Faultless.{not_same}
 use Rattle.ur_typed_faults.specs.SqlcauseLawsConverse.{NoneQueryIsFaulty}
-use Rattle.ur_typed_faults.proofs.Lacking.{refused, some_none, then_none_is, map_none_is, maybe_none_is, found_is, test_is, above, not_same, Lacks, lacks, FlatLacks, flat_lacks, only_lacks}
+use Rattle.ur_typed_faults.proofs.Lacking.{refused, some_none, then_none_is, map_none_is, maybe_none_is, found_is, test_is, test_holds, above, Lacks, lacks, FlatLacks, flat_lacks, only_lacks}
 use Rattle.ur_typed_faults.proofs.Expressions.{IsFaulty, expression_faulty}
 
 -- ---- expressions
 
 pub unfit : (w : Within) (e : SqlExp) (k : ColumnKind) → of_kind k w e ≡ None → (r : Refusal) × Misfits w e.form k r
 unfit w e k h = by (kinded w e.form) refl h where
-  by : (x : Option Kinded) → kinded w e.form ≡ x → option_and_then (if_kind k) x ≡ None → (r : Refusal) × Misfits w e.form k r
+  by : (x : Option Kinded) → kinded w e.form ≡ x → option_and_then (as_kind k) x ≡ None → (r : Refusal) × Misfits w e.form k r
   by None ex g = let f : IsFaulty w e.form = expression_faulty w e.form ex in (f.0, faulty f.1)
-  by (Some x) ex g = (refused 12 (kind_text x.1) (kind_text k), other_kind ex (not_same x.1 k (test_is (same_kind x.1 k) x.0 g)) (refl, refl, refl))
+  by (Some x) ex g = (refused 12 refl (kind_text x.1) (kind_text k), other_kind ex (not_same x.1 k (test_is (same_kind x.1 k) x.0 g)) (refl, refl, refl))
 
 none_of_some : (w : Within) (e : SqlExp) → of_some_kind w e ≡ None → IsFaulty w e.form
 none_of_some w e h = expression_faulty w e.form (map_none_is (λ (x : Kinded). x.0) (kinded w e.form) h)
+
+-- what MIN and MAX are of
+no_basic_kind : (w : Within) (e : SqlExp) → of_basic_kind w e ≡ None → (r : Refusal) × BasicBreaks w e r
+no_basic_kind w e h = by (kinded w e.form) refl h where
+  by : (x : Option Kinded) → kinded w e.form ≡ x → option_and_then if_basic x ≡ None → (r : Refusal) × BasicBreaks w e r
+  by None ex g = let f : IsFaulty w e.form = expression_faulty w e.form ex in (f.0, fault.basic_faulty f.1)
+  by (Some x) ex g = (refused 12 refl (kind_text x.1) three_kinds, fault.is_option x.0 x.1 ex (test_holds (is_optional x.1) x.0 g) (refl, refl, refl))
 
 no_column : (w : Within) (e : SqlExp) → column_in w e ≡ None → (r : Refusal) × ColumnBreaks w e r
 no_column w e h = by (kinded w e.form) refl h where
   by : (x : Option Kinded) → kinded w e.form ≡ x → option_and_then as_column (option_map (λ (x : Kinded). x.0) x) ≡ None → (r : Refusal) × ColumnBreaks w e r
   by None ex g = let f : IsFaulty w e.form = expression_faulty w e.form ex in (f.0, fault.column_faulty f.1)
-  by (Some x) ex g = (refused 12 (codes "expression") (codes "column"), fault.column_other (record { scalar = x.0; of = x.1; is = ex; none = g; told = (refl, refl, refl) }))
+  by (Some x) ex g =
+      (refused 12 refl (codes "expression") (codes "column"), fault.column_other (record { scalar = x.0; of = x.1; is = ex; none = g; told = (refl, refl, refl) }))
 
 -- ---- parts of a query
 
@@ -98,15 +107,17 @@ chosen_faulty names w q (selection.Items items) es h = elim (then_none_is once_c
   | inl a ↦ columns_faulty names w q items es a
   | inr b ↦
       let t : (at : ColumnAt) × (repeated same_column b.0 ≡ Some at) = found_is (repeated same_column b.0) (Some b.0) b.2 in
-      (refused 8 (column_text w.sources t.0) [], fault.chosen_twice items es (record { ats = b.0; at = t.0; chosen = b.1; twice = t.1; told = (refl, refl, refl) }))
+      (refused 8 refl (column_text w.sources t.0) [], fault.chosen_twice items es (record { ats = b.0; at = t.0; chosen = b.1; twice = t.1; told = (refl, refl, refl) }))
 ]
 
 -- what is selected with an AS name
 over_faulty : (w : Within) (g : WrittenAggregate) → aggregated w g ≡ None → (r : Refusal) × AggregateBreaks w r g
 over_faulty w written.Count h = absurd (some_none h)
 over_faulty w (written.Sum e) h = let m : (r : Refusal) × Misfits w e.form kind.Int r = unfit w e kind.Int (map_none_is aggregate.Sum (of_kind kind.Int w e) h) in (m.0, fault.no_sum e m.1)
-over_faulty w (written.Min e) h = let f : IsFaulty w e.form = none_of_some w e (map_none_is aggregate.Min (of_some_kind w e) h) in (f.0, fault.least e f.1)
-over_faulty w (written.Max e) h = let f : IsFaulty w e.form = none_of_some w e (map_none_is aggregate.Max (of_some_kind w e) h) in (f.0, fault.greatest e f.1)
+over_faulty w (written.Min e) h =
+    let b : (r : Refusal) × BasicBreaks w e r = no_basic_kind w e (map_none_is aggregate.Min (of_basic_kind w e) h) in (b.0, fault.least e b.1)
+over_faulty w (written.Max e) h =
+    let b : (r : Refusal) × BasicBreaks w e r = no_basic_kind w e (map_none_is aggregate.Max (of_basic_kind w e) h) in (b.0, fault.greatest e b.1)
 
 item_faulty : (names : List (List ℕ)) (w : Within) (s : Selected) → all_of (named_field names w) (named_form s) ≡ None → (r : Refusal) × ItemBreaks w r s
 item_faulty names w (selected.Column e) h = absurd (some_none h)
@@ -132,7 +143,7 @@ fields_faulty names w q h = elim (then_none_is once_named (all_fields names w q.
   ]
   | inr b ↦
       let t : (n : ℕ) × (repeated nat_eq (map field_number b.0) ≡ Some n) = found_is (repeated nat_eq (map field_number b.0)) b.0 b.2 in
-      (refused 8 (slice_index_or names t.0 []) [], fault.clash (record { fields = b.0; number = t.0; all = b.1; twice = t.1; told = (refl, refl, refl) }))
+      (refused 8 refl (slice_index_or names t.0 []) [], fault.clash (record { fields = b.0; number = t.0; all = b.1; twice = t.1; told = (refl, refl, refl) }))
 ]
 
 group_faulty : (names : List (List ℕ)) (w : Within) (q : SqlQuery) → all_of (column_in w) q.group ≡ None → Faulty names w q
@@ -152,10 +163,11 @@ not_int : (n : ℕ) (k : ColumnKind) → int_param n k ≡ None → k ≢ kind.I
 not_int n k h e = some_none (sym (ap (int_param n) e) ∙ h)
 
 bound_faulty : (w : Within) (l : Limit) → limited w l ≡ None → (r : Refusal) × BoundBreaks w r l
-bound_faulty w (limit.Int n) h = (refused 12 (decimal n) (codes "int"), fault.too_great n (above n (test_is (nat_lt n (2 ^ 63)) (bound.Is (pos n)) h)) (refl, refl, refl))
+bound_faulty w (limit.Int n) h =
+    (refused 12 refl (decimal n) (codes "int"), fault.too_great n (above n (test_is (nat_lt n (2 ^ 63)) (bound.Is (pos n)) h)) (refl, refl, refl))
 bound_faulty w (limit.Anti n) h = elim (then_none_is (int_param n) (slice_get w.antiquotes n) h) [
-  | inl a ↦ (refused 12 (codes "no antiquote") (codes "int"), fault.missing n a (refl, refl, refl))
-  | inr k ↦ (refused 12 (kind_text k.0) (codes "int"), fault.other_kind n k.0 k.1 (not_int n k.0 k.2) (refl, refl, refl))
+  | inl a ↦ (refused 12 refl (codes "no antiquote") (codes "int"), fault.missing n a (refl, refl, refl))
+  | inr k ↦ (refused 12 refl (kind_text k.0) (codes "int"), fault.other_kind n k.0 k.1 (not_int n k.0 k.2) (refl, refl, refl))
 ]
 
 limit_faulty : (names : List (List ℕ)) (w : Within) (q : SqlQuery) → maybe (limited w) q.limit ≡ None → Faulty names w q
@@ -214,7 +226,7 @@ module _ (names : List (List ℕ)) (w : Within) (q : SqlQuery) where
     | inl a ↦ stated_none a
     | inr c ↦
         let t : (at : ColumnAt) × (outside c.0 ≡ Some at) = found_is (outside c.0) c.0 c.2 in
-        (refused 12 (column_text w.sources t.0) (codes "GROUP BY"), fault.ungrouped (record { core = c.0; at = t.0; is = c.1; stands = t.1; told = (refl, refl, refl) }))
+        (refused 12 refl (column_text w.sources t.0) (codes "GROUP BY"), fault.ungrouped (record { core = c.0; at = t.0; is = c.1; stands = t.1; told = (refl, refl, refl) }))
   ]
 
 -- ---- the whole
@@ -224,10 +236,10 @@ items_faulty m tables names kinds q h = elim (then_none_is once_aliased (sources
   | inl a ↦
       let l : Lacks (source_at m tables) q.«from» = lacks (source_at m tables) q.«from» a in
       let i : FromItem = l.0 in
-      (refused 7 (table_text i.table) [], fault.no_table (record { item = i; stands = l.1; fault = record { none = map_none_is (source_of i) (table_at m tables i.table) l.2; told = (refl, refl, refl) } }))
+      (refused 7 refl (table_text i.table) [], fault.no_table (record { item = i; stands = l.1; fault = record { none = map_none_is (source_of i) (table_at m tables i.table) l.2; told = (refl, refl, refl) } }))
   | inr s ↦
       let t : (alias : List ℕ) × (repeated bytes_eq (map (λ z. z.alias) s.0) ≡ Some alias) = found_is (repeated bytes_eq (map (λ z. z.alias) s.0)) s.0 s.2 in
-      (refused 8 t.0 [], fault.alias_twice (record { sources = s.0; alias = t.0; items = s.1; twice = t.1; told = (refl, refl, refl) }))
+      (refused 8 refl t.0 [], fault.alias_twice (record { sources = s.0; alias = t.0; items = s.1; twice = t.1; told = (refl, refl, refl) }))
 ]
 
 pub query_faulty : NoneQueryIsFaulty

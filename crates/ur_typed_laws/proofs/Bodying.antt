@@ -158,7 +158,8 @@ decl_bodies app most home t p d _ q (project.DeclResolves.datatype {vs = vs} i x
     moved k.0 k.1 (passed app most _ _ _ p d ds fa va xs st (subst HasNoBody (sym e) source.HasNoBody.datatype) refl b c)
 decl_bodies app most home t p d _ _ (project.DeclResolves.table i j k l) e r r' ds fa va xs st b c = passed app most _ _ _ p d ds fa va xs st (subst HasNoBody (sym e) source.HasNoBody.table) refl b c
 decl_bodies app most home t p d _ _ (project.DeclResolves.sequence i j) e r r' ds fa va xs st b c = passed app most _ _ _ p d ds fa va xs st (subst HasNoBody (sym e) source.HasNoBody.sequence) refl b c
-decl_bodies app most home t p d _ _ (project.DeclResolves.cookie i j k) e r r' ds fa va xs st b c = passed app most _ _ _ p d ds fa va xs st (subst HasNoBody (sym e) source.HasNoBody.cookie) refl b c
+decl_bodies app most home t p d _ _ (project.DeclResolves.cookie i o j k) e r r' ds fa va xs st b c =
+    passed app most _ _ _ p d ds fa va xs st (subst HasNoBody (sym e) source.HasNoBody.cookie) refl b c
 decl_bodies app most home t p d _ _ (project.DeclResolves.val {x = x} {c = w} {e = z} i j k) e r r' ds fa va xs st b c =
     val_is app most home t p r x w z (sofar app (with_val x p)) ds fa va xs st c.queries c.changes (val_walked app app.names (bare app) (own_names app) most home p x w z (with_val x p) (project.DeclResolves.val i j k) t d e ds fa va xs b st c.carried)
 decl_bodies app most home t p d _ q (project.DeclResolves.functions {fs = fs} n x) e r r' ds fa va xs st b c =

@@ -147,7 +147,8 @@ decl_ready app most home p _ q (project.DeclResolves.datatype {x = x} {vs = vs} 
     let z : Place = with_entry x kind.Star (meaning.Datatype p.datatypes) (counted p) in variants_ready app most home p.datatypes z vs q y (record { counted = entry_counted x kind.Star (meaning.Datatype p.datatypes) (counted p) (datatype_counted p r.counted); fields = r.fields; at_home = r.at_home })
 decl_ready app most home p _ _ (project.DeclResolves.table {shape = s} w h i l) r = record { counted = record { values = r.counted.values; constructors = r.counted.constructors; cookies = r.counted.cookies; sequences = r.counted.sequences }; fields = r.fields; at_home = r.at_home }
 decl_ready app most home p _ _ (project.DeclResolves.sequence {x = x} i l) r = record { counted = sequence_counted x p r.counted; fields = r.fields; at_home = r.at_home }
-decl_ready app most home p _ _ (project.DeclResolves.cookie {x = x} w i l) r = record { counted = cookie_counted x p r.counted; fields = r.fields; at_home = r.at_home }
+decl_ready app most home p _ _ (project.DeclResolves.cookie {x = x} w b i l) r =
+    record { counted = cookie_counted x p r.counted; fields = r.fields; at_home = r.at_home }
 decl_ready app most home p _ _ (project.DeclResolves.val {x = x} w y l) r = record { counted = val_counted x p r.counted; fields = r.fields; at_home = r.at_home }
 decl_ready app most home p _ q (project.DeclResolves.functions {fs = fs} n y) r = named_ready app home p fs q n r
 

@@ -113,7 +113,7 @@ decl_step a b m most home p _ _ _ (project.DeclResolves.sequence {x = x} {m = n}
       same = refl;
       agreed = record { functions = g.functions; vals = g.vals; datatypes = g.datatypes; variants = g.variants; cookies = g.cookies; sequences = agree_next (length p.globals.sequences) a.schema.sequences b.schema.sequences (name_text (Some n) x) g.sequences l (l' ∙ ap (λ y. Some (name_text (Some y) x)) (sym e)) };
     }
-decl_step a b m most home p _ _ _ (project.DeclResolves.cookie {x = x} {m = n} {c = c} {k = k} w i l) (project.DeclResolves.cookie {m = n'} {k = k'} w' i' l') g =
+decl_step a b m most home p _ _ _ (project.DeclResolves.cookie {x = x} {m = n} {c = c} {k = k} w o i l) (project.DeclResolves.cookie {m = n'} {k = k'} w' o' i' l') g =
     let e : n ≡ n' = some_of (sym i ∙ (ap (λ y. slice_get y home) m ∙ i')) in
     let j : k ≡ k' = one_kind k k' (one_type most (env_at p) c (kind_type k) (kind_type k') w w') in
     record {

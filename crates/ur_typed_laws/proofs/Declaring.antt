@@ -30,7 +30,7 @@ use Rattle.ur_typed.specs.Declaring.{Sofar, with_defined, may_be_defined, define
 use Rattle.ur_typed_laws.proofs.Begun.{begun_last}
 use Rattle.ur_typed_laws.proofs.Holding.{Holds, Tallied, Grows, grows_on, defined_grows, a_datatype, datatype_grows, table_grows, sequence_grows, cookie_grows}
 use Rattle.ur_typed_laws.proofs.Writing.{is_written, small_writes, con_of_test}
-use Rattle.ur_typed_laws.proofs.Tabling.{shape_told, kind_told}
+use Rattle.ur_typed_laws.proofs.Tabling.{shape_told, kind_told, basic_told}
 use Rattle.ur_typed_laws.proofs.Varying.{Varied, variants_told}
 
 pub record Declares (app : Typed) (most home : ℕ) (d : DeclForm) (z y : Sofar) : Type 0 where
@@ -124,6 +124,7 @@ cookie_told app most home x c z y h =
       grows = cookie_grows app x z i.0;
       functions = refl;
       vals = refl;
-      resolves = λ k t m. project.DeclResolves.cookie w m (begun_last z.cookies app.cookies (full_name z x, i.0) (length z.place.globals.cookies) k.cookies t.cookies);
+      resolves = λ k t m. project.DeclResolves.cookie w (basic_told j.0 i.0 j.2) m
+          (begun_last z.cookies app.cookies (full_name z x, i.0) (length z.place.globals.cookies) k.cookies t.cookies);
       typed = λ k t a. a;
     })

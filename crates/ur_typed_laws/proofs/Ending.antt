@@ -10,7 +10,7 @@ use Rattle.ur_kinds.specs.KindedFaults.{ProjectIsKinded}
 use Rattle.ur_sql.specs.Typing.{QueryFits, ChangeFits}
 use Rattle.ur_tree.specs.declared.typed.Typed.{Typed}
 use Rattle.ur_tree.specs.Heads.{declared_of}
-use Rattle.ur_tree.specs.App.{VariantIsTyped, FunctionIsTyped}
+use Rattle.ur_tree.specs.App.{VariantIsTyped, FunctionIsTyped, IsBasicCookie}
 use Rattle.ur_typed_rules.proofs.Options.{some_of, opened, mapped}
 use Rattle.ur_typed.specs.Typed.{all_decls, AreBodies, SignatureFits, sites_in, updates_in, all_occurrences, IsTypedWithin}
 use Rattle.ur_typed.specs.Declaring.{Sofar, Checked, entries_out, ended, modules_out, project_out}
@@ -29,6 +29,7 @@ use Rattle.ur_typed_laws.proofs.Among.{all_bodies, occurs_there, occurs_back}
 use Rattle.ur_typed_laws.specs.Sound.{CheckedIsTyped}
 use Rattle.ur_typed_laws.proofs.Begun.{begins_whole, take_begun}
 use Rattle.ur_typed_laws.proofs.Holding.{Holds, Tallied}
+use Rattle.ur_typed_laws.proofs.Cookies.{none_below, modules_basic}
 use Rattle.ur_typed_laws.proofs.Kinding.{kinded_is_plain}
 use Rattle.ur_typed_laws.proofs.SoundLawsBodying.{HoldsBodies}
 use Rattle.ur_typed_laws.proofs.Stepping.{Counts, TypedTo}
@@ -159,6 +160,9 @@ checked_typed sound Keeps Leads most names modules signature app x steady first 
         queries = fits.0;
         changes = fits.1;
         routes = routes_fit app names p.0.place.fields p.0 x.entries (occurring p) m.modules m.fields m.heads m.routes;
+        cookies =
+            by_place IsBasicCookie app.cookies (length p.0.place.globals.cookies) (ap length m.cookies ∙ t.cookies)
+            (modules_basic app most 0 (begun app.names).0.place names modules p.0.place g.go.resolve (none_below app));
       };
     }
 

@@ -148,7 +148,8 @@ decl_going a b most ff hs u home p d _ q (project.DeclResolves.datatype {vs = vs
     moved a b ff p.functions q.functions p.vals q.vals ds fa va fb vb xs ys c.0 c.1 (passed_over a b ff p.functions p.vals d ds fa va fb vb xs ys st (subst HasNoBody (sym e) source.HasNoBody.datatype) ba bb g)
 decl_going a b most ff hs u home p d _ _ (project.DeclResolves.table i j k l) y e ds fa va fb vb xs ys st ba bb g = passed_over a b ff p.functions p.vals d ds fa va fb vb xs ys st (subst HasNoBody (sym e) source.HasNoBody.table) ba bb g
 decl_going a b most ff hs u home p d _ _ (project.DeclResolves.sequence i j) y e ds fa va fb vb xs ys st ba bb g = passed_over a b ff p.functions p.vals d ds fa va fb vb xs ys st (subst HasNoBody (sym e) source.HasNoBody.sequence) ba bb g
-decl_going a b most ff hs u home p d _ _ (project.DeclResolves.cookie i j k) y e ds fa va fb vb xs ys st ba bb g = passed_over a b ff p.functions p.vals d ds fa va fb vb xs ys st (subst HasNoBody (sym e) source.HasNoBody.cookie) ba bb g
+decl_going a b most ff hs u home p d _ _ (project.DeclResolves.cookie i o j k) y e ds fa va fb vb xs ys st ba bb g =
+    passed_over a b ff p.functions p.vals d ds fa va fb vb xs ys st (subst HasNoBody (sym e) source.HasNoBody.cookie) ba bb g
 decl_going a b most ff hs u home p d _ _ (project.DeclResolves.val {x = x} {c = c} {e = z} i j k) y e ds fa va fb vb xs ys st ba bb g =
     val_going a b most ff hs u p c z ds fa va fb vb xs ys st g
     (val_walked a ff hs u.of_a most home p x c z _ (project.DeclResolves.val i j k) u.typed_a d e ds fa va xs ba st g.left)

@@ -68,7 +68,7 @@ larger_decl l (project.DeclResolves.type_ w a) = project.DeclResolves.type_ (wid
 larger_decl l (project.DeclResolves.datatype h x) = project.DeclResolves.datatype h (larger_variants l x)
 larger_decl l (project.DeclResolves.table w h i s) = project.DeclResolves.table (wider_type l w) h i s
 larger_decl l (project.DeclResolves.sequence h s) = project.DeclResolves.sequence h s
-larger_decl l (project.DeclResolves.cookie w h s) = project.DeclResolves.cookie (wider_type l w) h s
+larger_decl l (project.DeclResolves.cookie w b h s) = project.DeclResolves.cookie (wider_type l w) b h s
 larger_decl l (project.DeclResolves.val w r s) = project.DeclResolves.val (wider_type l w) (wider l refl r) s
 larger_decl l (project.DeclResolves.functions h x) = project.DeclResolves.functions h (larger_functions l x)
 
@@ -102,6 +102,7 @@ larger_app app m n l x = record {
   queries = x.queries;
   changes = x.changes;
   routes = x.routes;
+  cookies = x.cookies;
 }
 
 larger_signature : {app : Typed} {m n : ℕ} {p : Place} {s : Signature} → m ≤ n → SignatureFits app m p s → SignatureFits app n p s

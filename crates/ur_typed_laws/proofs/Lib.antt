@@ -39,6 +39,7 @@ pub mod Wider
 pub mod Written
 pub mod Among
 mod Bodying
+mod Cookies
 mod Counting
 pub mod Extending
 pub mod Given

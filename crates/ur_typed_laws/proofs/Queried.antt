@@ -77,6 +77,8 @@ inside_none group (s.Add' _ (one a end) _ (one b end)) h = or_none (outside_in g
 inside_none group (s.Sub' _ (one a end) _ (one b end)) h = or_none (outside_in group a) (outside_in group b) (inside_none group a h.0) (inside_none group b h.1)
 inside_none group (s.Mul' _ (one a end) _ (one b end)) h = or_none (outside_in group a) (outside_in group b) (inside_none group a h.0) (inside_none group b h.1)
 inside_none group (s.Neg' _ (one a end)) h = inside_none group a h
+inside_none group (s.Null k) h = refl
+inside_none group (s.Present' _ (one a end)) h = inside_none group a h
 
 none_each : {A : Type 0} (f : A → Option ColumnAt) (P : A → Type 0) → ((x : A) → P x → f x ≡ None) → (xs : List A) → AllByRecursion P xs → first_in f xs ≡ None
 none_each f P g [] h = refl

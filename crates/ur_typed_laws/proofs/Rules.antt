@@ -36,7 +36,7 @@ use Rattle.ur_typed_rules.specs.Names as here
 use Rattle.ur_typed_rules.specs.Scopes.{World, Scope, Mode, finds, wants, within_binder, within_branch, within_params, of_field, of_result}
 use Rattle.ur_typed_rules.specs.Tests.{are_arguments, are_params, are_distinct}
 use Rattle.ur_sqltype.specs.Lists.{all_of}
-use Rattle.ur_sqltype.specs.Table.{type_kind}
+use Rattle.ur_sqltype.specs.Table.{column_type_kind}
 use Rattle.ur_sqltype.specs.Query.{query_of}
 use Rattle.ur_sqltype.specs.Change.{change_of}
 use Rattle.ur_sqltype.specs.SqltypeFits.{QueryOfFits, ChangeOfFits}
@@ -251,11 +251,13 @@ change_fits_there {t = t} {st = st} n u k h = record { queries = h.queries; chan
 
 query_at_fits : QueryOfFits → (w : World) (q : SqlQuery) (a : Antiquotes) (d : Query) → query_at w q a ≡ Some d → QueryFits w.globals.tables d
 query_at_fits f w q a d h =
-    let i = opened (λ (kinds : List ColumnKind). query_of w.globals.home w.globals.tables w.fields kinds q) (all_of type_kind a.types) d h in f w.globals.home w.globals.tables w.fields i.0 q d i.2
+    let i = opened (λ (kinds : List ColumnKind). query_of w.globals.home w.globals.tables w.fields kinds q) (all_of column_type_kind a.types) d h in f
+    w.globals.home w.globals.tables w.fields i.0 q d i.2
 
 change_at_fits : ChangeOfFits → (w : World) (u : SqlChange) (a : Antiquotes) (d : Change) → change_at w u a ≡ Some d → ChangeFits w.globals.tables d
 change_at_fits f w u a d h =
-    let i = opened (λ (kinds : List ColumnKind). change_of w.globals.home w.globals.tables kinds u) (all_of type_kind a.types) d h in f w.globals.home w.globals.tables i.0 u d i.2
+    let i = opened (λ (kinds : List ColumnKind). change_of w.globals.home w.globals.tables kinds u) (all_of column_type_kind a.types) d h in f
+    w.globals.home w.globals.tables i.0 u d i.2
 
 pub antiquote_fits : {t : Schema} (s : Scope) (st : Sites) (a : Walk) (r : Sites → Option Antiquotes) → WalkFits t a → ((su : Sites) → SitesFit t su → Brings (AntiquotesFit t) (r su)) → SitesFit t st → Brings (AntiquotesFit t) (antiquote_out s st a r)
 antiquote_fits s st a r k l h = then_brings (k.on s st finds h) (λ o i. map_brings (with_antiquote o) (l o.sites i) (λ x j. j))

@@ -18,6 +18,7 @@ use Rattle.ur_syntax.specs.declared.exp.Param.{Param as WrittenParam}
 use Rattle.ur_values.specs.declared.schema.ColumnKind.{ColumnKind}
 use Rattle.ur_values.specs.declared.schema.ColumnKind.TheVariants as column
 use Rattle.ur_values.specs.declared.schema.TableShape.{TableShape}
+use Rattle.ur_values.specs.Kinds.{inside}
 use Rattle.ur_rows.specs.declared.normal.Normal.{Normal}
 use Rattle.ur_rows.specs.declared.normal.Normal.TheVariants as normal
 use Rattle.ur_rows.specs.declared.normal.NormalType.{NormalType}
@@ -32,6 +33,7 @@ use Rattle.ur_sqltype.specs.declared.keys.SqlKey.{SqlKey}
 use Rattle.ur_sqltype.specs.Lists.{all_of, repeated}
 use Rattle.ur_sqltype.specs.Table.{IsTable, IsTableOf, type_kind, record_row, column_from, key_of}
 use Rattle.ur_sqltype.proofs.Once.{none_twice}
+use Rattle.ur_typed.proofs.Keyed.{plain_tested}
 use Rattle.ur_tree.specs.declared.exp.Param.{Param}
 use Rattle.ur_tree.specs.declared.typed.Typed.{Typed}
 use Rattle.ur_tree.specs.declared.typed.Datatype.{Datatype}
@@ -54,7 +56,7 @@ use Rattle.ur_typed.specs.Resolves.{IsParam}
 use Rattle.ur_typed.specs.Resolves as resolves
 use Rattle.ur_typed.specs.Project.{Place, env_at, names_at, with_entry, with_function, with_val, with_variant, with_table, with_sequence, with_cookie, written_keys, AreConParams, AreParams, FunctionResolves, FunctionsResolve, AreNamed, VariantsResolve, DeclResolves}
 use Rattle.ur_typed.specs.Project as project
-use Rattle.ur_typed.specs.Declaring.{FunctionHead, Sofar, world_behind, top_scope, counted, defined_out, argument_out, with_constructor, variant_out, variants_out, with_datatype, shape_with, keyed_shape, columns_shape, shape_out, with_shape, full_name, table_out, with_named_sequence, with_named_cookie, cookie_out, and_con, small_row, con_params_out, all_params_out, con_param_fits, head_fits, fitting, heading, Heading, resulting, written_heading, heading_out, with_head, headings_out, val_type_out, with_val_of, decl_out}
+use Rattle.ur_typed.specs.Declaring.{FunctionHead, Sofar, world_behind, top_scope, counted, defined_out, argument_out, with_constructor, variant_out, variants_out, with_datatype, shape_with, has_no_option, plain_shape, keyed_shape, columns_shape, shape_out, with_shape, full_name, table_out, with_named_sequence, with_named_cookie, cookie_out, and_con, small_row, con_params_out, all_params_out, con_param_fits, head_fits, fitting, heading, Heading, resulting, written_heading, heading_out, with_head, headings_out, val_type_out, with_val_of, decl_out}
 use Rattle.ur_typed_laws.proofs.Walked.{so_true, and_true, within}
 use Rattle.ur_typed_laws.proofs.Lists.{all_at}
 use Rattle.ur_typed_laws.proofs.Written.{headed, body_names}
@@ -166,7 +168,9 @@ row_shape name row keys shape t =
     then_some (columns_shape name keys) (all_of column_from row) shape.columns (Some shape) t.columns
     (so_true (is_none (repeated bytes_eq (map (λ c. c.0) shape.columns))) (option_and_then (keyed_shape name keys shape.columns) (all_of (key_of shape.columns) keys)) (none_is (repeated bytes_eq (map (λ c. c.0) shape.columns)) (none_twice bytes_eq (map (λ c. c.0) shape.columns) t.distinct))
     ∙ then_some (keyed_shape name keys shape.columns) (all_of (key_of shape.columns) keys) shape.keys (Some shape) t.are_keys
-    (so_true (list_all (λ k. is_none (repeated nat_eq k)) shape.keys) (Some (shape_with name keys shape.columns shape.keys)) (all_once shape.keys t.once)
+    (so_true (list_all (λ k. is_none (repeated nat_eq k)) shape.keys) (plain_shape name keys shape.columns shape.keys) (all_once shape.keys t.once)
+    ∙ so_true (list_all (has_no_option shape.columns) shape.keys) (Some (shape_with name keys shape.columns shape.keys))
+    (plain_tested shape.columns shape.keys t.plain_keys)
     ∙ ap (λ z. Some z) (ap₂ (λ a b. a_shape a shape.columns shape.keys b) (sym t.named) (sym t.primary))))
 
 shape_is : (name : List ℕ) (t : NormalType) (keys : List SqlKey) (shape : TableShape) → IsTable name (normal.Type t) keys shape → shape_out name keys t ≡ Some shape
@@ -180,14 +184,19 @@ sequence_is : (app : Typed) (p : Place) (x : List ℕ) → slice_get app.schema.
 sequence_is app p x h =
     ap (λ z. a_sofar (with_sequence x p) (take p.datatypes app.datatypes) (take p.variants app.variants) (take p.vals (map val_of app.vals)) (take p.functions (map headed app.functions)) (take (length p.globals.cookies) app.cookies) z) (take_next (length p.globals.sequences) app.schema.sequences (full_name (sofar app p) x) h)
 
-kind_is : (k : ColumnKind) → type_kind (kind_type k) ≡ Some k
-kind_is column.Int = refl
-kind_is column.Str = refl
-kind_is column.Bool = refl
+kind_is : (k : ColumnKind) → inside k ≡ None → type_kind (kind_type k) ≡ Some k
+kind_is column.Int h = refl
+kind_is column.Str h = refl
+kind_is column.Bool h = refl
+kind_is column.OptInt h = cc
+kind_is column.OptStr h = cc
+kind_is column.OptBool h = cc
 
-cookie_is : (app : Typed) (most : ℕ) (p : Place) (x : List ℕ) (c : Con) (k : ColumnKind) → WritesType most (env_at p) c (kind_type k) → slice_get app.cookies (length p.globals.cookies) ≡ Some (full_name (sofar app p) x, k) → cookie_out most x c (sofar app p) ≡ Some (sofar app (with_cookie x p))
-cookie_is app most p x c k w h =
-    ap (option_map (with_named_cookie x (sofar app p))) (then_some type_kind _ (kind_type k) (Some k) (small_is w) (kind_is k))
+cookie_is : (app : Typed) (most : ℕ) (p : Place) (x : List ℕ) (c : Con) (k : ColumnKind) → WritesType most (env_at p) c (kind_type k) → inside k ≡ None →
+    slice_get app.cookies (length p.globals.cookies) ≡ Some (full_name (sofar app p) x, k) →
+    cookie_out most x c (sofar app p) ≡ Some (sofar app (with_cookie x p))
+cookie_is app most p x c k w b h =
+    ap (option_map (with_named_cookie x (sofar app p))) (then_some type_kind _ (kind_type k) (Some k) (small_is w) (kind_is k b))
     ∙ ap (λ z. Some (a_sofar (with_cookie x p) (take p.datatypes app.datatypes) (take p.variants app.variants) (take p.vals (map val_of app.vals)) (take p.functions (map headed app.functions)) z (take (length p.globals.sequences) app.schema.sequences))) (take_next (length p.globals.cookies) app.cookies (full_name (sofar app p) x, k) h)
 
 -- ---- heads of functions and `val`s
@@ -263,9 +272,10 @@ decl_is app most home t p _ _ m (project.DeclResolves.table {x = x} {m = n} {c =
 decl_is app most home t p _ _ m (project.DeclResolves.sequence {x = x} {m = n} i l) =
     let e : n ≡ p.globals.home = some_of (sym i ∙ m) in
     ap (λ z. Some z) (sequence_is app p x (l ∙ ap (λ z. Some (full_name (record (sofar app p) { place = record p { globals = record p.globals { home = z } } }) x)) e))
-decl_is app most home t p _ _ m (project.DeclResolves.cookie {x = x} {m = n} {c = c} {k = k} w i l) =
+decl_is app most home t p _ _ m (project.DeclResolves.cookie {x = x} {m = n} {c = c} {k = k} w b i l) =
     let e : n ≡ p.globals.home = some_of (sym i ∙ m) in
-    cookie_is app most p x c k w (l ∙ ap (λ z. Some (full_name (record (sofar app p) { place = record p { globals = record p.globals { home = z } } }) x, k)) e)
+    cookie_is app most p x c k w b (l ∙ ap (λ z. Some
+    (full_name (record (sofar app p) { place = record p { globals = record p.globals { home = z } } }) x, k)) e)
 decl_is app most home t p _ _ m (project.DeclResolves.val {x = x} {c = c} {d = d} w r l) =
     ap (option_map (with_val_of x (sofar app p))) (val_type_is app most p c d.of w (t.vals p.vals d l).written (t.vals p.vals d l).placed) ∙ ap (λ z. Some z) (with_val_is app p x d.of (slice_get-map val_of app.vals p.vals ∙ ap (option_map val_of) l))
 decl_is app most home t p _ q m (project.DeclResolves.functions {fs = fs} n r) = headings_are app most home t q p p.functions fs q r n (named_names p fs q n) refl

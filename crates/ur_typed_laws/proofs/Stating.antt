@@ -18,12 +18,13 @@ use Rattle.ur_syntax.specs.declared.exp.QueryWord.TheVariants as word
 use Rattle.ur_syntax.specs.declared.exp.ExpForm.{ExpForm, Row_of-Exp, end_of-Exp as alone, more_of-Exp as its}
 use Rattle.ur_syntax.specs.declared.exp.ExpForm.TheVariants as e
 use Rattle.ur_values.specs.declared.schema.ColumnKind.{ColumnKind}
+use Rattle.ur_values.specs.Kinds.{optional}
 use Rattle.ur_sql.specs.declared.query.Query.{Query}
 use Rattle.ur_sql.specs.declared.change.Change.{Change}
-use Rattle.ur_rows.specs.declared.normal.NormalType.{NormalType}
+use Rattle.ur_rows.specs.declared.normal.NormalType.{NormalType, more_of-NormalType as its_type, end_of-NormalType as none}
 use Rattle.ur_rows.specs.declared.normal.NormalType.TheVariants as ty
 use Rattle.ur_rows.specs.declared.normal.Part.{Part as RowPart}
-use Rattle.ur_rows.specs.Made.{unit, record_of}
+use Rattle.ur_rows.specs.Made.{unit, option_of, record_of}
 use Rattle.ur_rows.specs.Nodes.{nodes}
 use Rattle.ur_rows.specs.Normal.{nf}
 use Rattle.ur_rows.specs.Put.{as_type}
@@ -32,7 +33,7 @@ use Rattle.ur_tree.specs.Places.{sort_of, Sort}
 use Rattle.ur_tree.specs.Scalars.{kind_type}
 use Rattle.ur_tree.specs.QueryRow.{query_row}
 use Rattle.ur_sqltype.specs.Lists.{all_of}
-use Rattle.ur_sqltype.specs.Table.{type_kind}
+use Rattle.ur_sqltype.specs.Table.{type_kind, column_type_kind}
 use Rattle.ur_sqltype.specs.IsQuery.{IsQuery}
 use Rattle.ur_sqltype.specs.Query.{query_of}
 use Rattle.ur_sqltype.specs.Change.{IsChange, change_of}
@@ -84,17 +85,24 @@ antiquotes_sound w s _ (its {n = n} p x rest) k st a h d g =
     let ix : IsSound w x s st finds d c.0 = k.0 s st finds c.0 c.1 d ir.before in
     subst (λ z. AntiquotesAreSound w s _ (its p x rest) st d z) v.2 (record { before = ix.before; resolve = all_one ix.resolves ir.resolve; found = (c.0.of, v.0.types, refl, ix.judged.0, ix.judged.1, ir.found); numbered = numbered_both ix.numbered ir.numbered })
 
-kind_is : (t : NormalType) (k : ColumnKind) → type_kind t ≡ Some k → t ≡ kind_type k
+option_is : (t : NormalType) (k : ColumnKind) → option_and_then optional (type_kind t) ≡ Some k → option_of t ≡ kind_type k
+option_is ty.Int k h = ap kind_type (some_of h)
+option_is ty.Str k h = ap kind_type (some_of h)
+option_is ty.Bool k h = ap kind_type (some_of h)
+option_is _ k h = cc
+
+kind_is : (t : NormalType) (k : ColumnKind) → column_type_kind t ≡ Some k → t ≡ kind_type k
 kind_is ty.Int k h = ap kind_type (some_of h)
 kind_is ty.Str k h = ap kind_type (some_of h)
 kind_is ty.Bool k h = ap kind_type (some_of h)
+kind_is (ty.Opt' _ (its_type t none)) k h = option_is t k h
 kind_is _ k h = cc
 
-kinds_are : (ts : List NormalType) (ks : List ColumnKind) → all_of type_kind ts ≡ Some ks → ts ≡ map kind_type ks
+kinds_are : (ts : List NormalType) (ks : List ColumnKind) → all_of column_type_kind ts ≡ Some ks → ts ≡ map kind_type ks
 kinds_are [] ks h = ap (map kind_type) (some_of h)
 kinds_are (t ∷ ts) ks h =
-    let c : (k : ColumnKind) × (type_kind t ≡ Some k) × (option_map (λ rest. k ∷ rest) (all_of type_kind ts) ≡ Some ks) = opened _ _ ks h in
-    let v : (z : List ColumnKind) × (all_of type_kind ts ≡ Some z) × (c.0 ∷ z ≡ ks) = mapped _ _ ks c.2 in
+    let c : (k : ColumnKind) × (column_type_kind t ≡ Some k) × (option_map (λ rest. k ∷ rest) (all_of column_type_kind ts) ≡ Some ks) = opened _ _ ks h in
+    let v : (z : List ColumnKind) × (all_of column_type_kind ts ≡ Some z) × (c.0 ∷ z ≡ ks) = mapped _ _ ks c.2 in
     ap (λ z. z ∷ ts) (kind_is t c.0 c.1) ∙ (ap (λ z. kind_type c.0 ∷ z) (kinds_are ts v.0 v.1) ∙ ap (map kind_type) v.2)
 
 -- ---- the slot of a query
@@ -177,7 +185,8 @@ asked w s st n args q a c d k ea ec f =
     let N : Numbered (with_query_slot st) (occurrences_of a.exps.1) a.sites = (antiquotes_sound w s _ args k (with_query_slot st) a ea (filled w a.sites) (fills_filled w a.sites)).numbered in
     let g : Fills w d a.sites = before_query w d st a.sites (occurrences_of a.exps.1) c N f in
     let i : AntiquotesAreSound w s _ args (with_query_slot st) d a = antiquotes_sound w s _ args k (with_query_slot st) a ea d g in
-    let ks : (ks : List ColumnKind) × (all_of type_kind a.types ≡ Some ks) × (query_of w.globals.home w.globals.tables w.fields ks q ≡ Some c) = opened _ _ c ec in
+    let ks : (ks : List ColumnKind) × (all_of column_type_kind a.types ≡ Some ks) × (query_of w.globals.home w.globals.tables w.fields ks q ≡ Some c)
+    = opened _ _ c ec in
     let is : IsQuery w.globals.home w.globals.tables w.fields ks.0 q c = query_is w.globals.home w.globals.tables w.fields ks.0 q c ks.2 in
     let t : a.types ≡ map kind_type c.params = kinds_are a.types ks.0 ks.1 ∙ ap (map kind_type) (sym is.params) in
     let th : slice_get d.queries (length st.queries) ≡ Some c = f.queries (length st.queries) c (slot_there st.queries a.sites.queries N.queries c N.all_queries) in
@@ -230,7 +239,8 @@ change_sound told w u n args k s st m o h d g =
     let N : Numbered (with_change_slot st) (occurrences_of a.0.exps.1) a.0.sites = (antiquotes_sound w s _ args k (with_change_slot st) a.0 a.1 (filled w a.0.sites) (fills_filled w a.0.sites)).numbered in
     let g' : Fills w d a.0.sites = before_change w d st a.0.sites (occurrences_of a.0.exps.1) c.0 N f in
     let i : AntiquotesAreSound w s _ args (with_change_slot st) d a.0 = antiquotes_sound w s _ args k (with_change_slot st) a.0 a.1 d g' in
-    let ks : (ks : List ColumnKind) × (all_of type_kind a.0.types ≡ Some ks) × (change_of w.globals.home w.globals.tables ks u ≡ Some c.0) = opened _ _ c.0 c.1 in
+    let ks : (ks : List ColumnKind) × (all_of column_type_kind a.0.types ≡ Some ks) × (change_of w.globals.home w.globals.tables ks u ≡ Some c.0) = opened _
+    _ c.0 c.1 in
     let is : IsChange w.globals.home w.globals.tables ks.0 u c.0 = change_is w.globals.home w.globals.tables ks.0 u c.0 ks.2 in
     let t : a.0.types ≡ map kind_type c.0.params = kinds_are a.0.types ks.0 ks.1 ∙ ap (map kind_type) (sym is.params) in
     let th : slice_get d.changes (length st.changes) ≡ Some c.0 = f.changes (length st.changes) c.0 (slot_there st.changes a.0.sites.changes N.changes c.0 N.all_changes) in

@@ -35,7 +35,7 @@ use Rattle.ur_tree.specs.Places.{sort_of, Sort}
 use Rattle.ur_tree.specs.Scalars.{kind_type}
 use Rattle.ur_tree.specs.QueryRow.{query_row}
 use Rattle.ur_sqltype.specs.Lists.{and_then, all_of}
-use Rattle.ur_sqltype.specs.Table.{type_kind}
+use Rattle.ur_sqltype.specs.Table.{column_type_kind}
 use Rattle.ur_sqltype.specs.Query.{query_of}
 use Rattle.ur_sqltype.specs.IsQuery.{IsQuery}
 use Rattle.ur_sqltype.specs.Change.{change_of, IsChange}
@@ -120,12 +120,15 @@ row_walked w d names env _ _ _ _ ts (row_one {p = p} {x = x} {b = b} {n = n} {m 
     subst (λ z. RowIsWalked w d _ (its p x rest) s st _ (one_more b out) z) (sym h.2)
     (record { sites = v.sites; walked = then_some _ _ (out_of h.0 b i.sites) _ i.walked (ap (option_map (with_antiquote (out_of h.0 b i.sites))) v.walked); fills = v.fills; numbered = numbered_both i.numbered v.numbered })
 
-kind_back : (k : ColumnKind) → type_kind (kind_type k) ≡ Some k
+kind_back : (k : ColumnKind) → column_type_kind (kind_type k) ≡ Some k
 kind_back kind.Int = refl
 kind_back kind.Str = refl
 kind_back kind.Bool = refl
+kind_back kind.OptInt = refl
+kind_back kind.OptStr = refl
+kind_back kind.OptBool = refl
 
-kinds_back : (ks : List ColumnKind) → all_of type_kind (map kind_type ks) ≡ Some ks
+kinds_back : (ks : List ColumnKind) → all_of column_type_kind (map kind_type ks) ≡ Some ks
 kinds_back [] = refl
 kinds_back (k ∷ ks) = ap₂ and_then (kind_back k) (kinds_back ks)
 
@@ -214,7 +217,8 @@ is_asked w d names env st n args q c k out kr f th core g u =
     let i : IsQuery w.globals.home w.globals.tables w.fields c.params q c = subst (λ z. IsQuery w.globals.home w.globals.tables z c.params q c) g.names core in
     record {
       row = r;
-      core = then_some (λ ks. query_of w.globals.home w.globals.tables w.fields ks q) (all_of type_kind (map kind_type c.params)) c.params (Some c) (kinds_back c.params) (query_back w.globals.home w.globals.tables w.fields c.params q c i);
+      core = then_some (λ ks. query_of w.globals.home w.globals.tables w.fields ks q) (all_of column_type_kind (map kind_type c.params)) c.params (Some c)
+          (kinds_back c.params) (query_back w.globals.home w.globals.tables w.fields c.params q c i);
       fills = query_fills w d st r.sites (occurrences_of out) c r.numbered r.fills th;
       numbered = query_numbered st r.sites (occurrences_of out) c r.numbered;
     }
@@ -267,7 +271,8 @@ change_walked w d names u i c n args k out th core kr env m t j st g z =
     let a : Antiquotes = record { types = map kind_type c.params; exps = shaped_exps out; sites = r.sites } in
     let sv : Sites = with_change (length st.changes) c r.sites in
     let th' : slice_get d.changes (length st.changes) ≡ Some c = ap (slice_get d.changes) (sym x.0) ∙ th in
-    let ec : change_at w u a ≡ Some c = then_some (λ ks. change_of w.globals.home w.globals.tables ks u) (all_of type_kind (map kind_type c.params)) c.params (Some c) (kinds_back c.params) (change_back w.globals.home w.globals.tables c.params u c core) in
+    let ec : change_at w u a ≡ Some c = then_some (λ ks. change_of w.globals.home w.globals.tables ks u) (all_of column_type_kind (map kind_type c.params))
+    c.params (Some c) (kinds_back c.params) (change_back w.globals.home w.globals.tables c.params u c core) in
     let out_is : exp.Write' (length st.changes) (shaped_exps out).0 (shaped_exps out).1 ≡ v = ap₂ (λ q (b : Args). exp.Write' q b.0 b.1) (sym x.0) (exps_shaped k out) in
     let h : walk w f s st m ≡ Some (out_of t v sv) =
     then_some _ _ a _ r.walked (then_some (written_of st a) (change_at w u a) c _ ec (ap₂ (λ q b. Some (out_of q b sv)) (sym y.rule.3) out_is)) in

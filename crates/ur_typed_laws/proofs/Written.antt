@@ -15,7 +15,7 @@ use Rattle.ur_rows.specs.Put.{as_type, as_row}
 use Rattle.ur_tree.specs.Scalars.{kind_type}
 use Rattle.ur_sqltype.specs.declared.keys.SqlKey.{SqlKey}
 use Rattle.ur_sqltype.specs.Lists.{all_of}
-use Rattle.ur_sqltype.specs.Table.{IsTable, column_from, key_of, type_kind}
+use Rattle.ur_sqltype.specs.Table.{IsTable, column_from, key_of, column_type_kind}
 use Rattle.ur_tree.specs.declared.exp.Param.{Param}
 use Rattle.ur_tree.specs.declared.typed.Typed.{Typed}
 use Rattle.ur_tree.specs.declared.typed.Function.{Function}
@@ -69,13 +69,16 @@ one_shape name of keys s z x y =
     let k : s.keys ≡ z.keys = some_of (sym x.table.are_keys ∙ (ap (λ v. all_of (key_of v) keys) c ∙ y.table.are_keys)) in
     ap (λ v. a_shape v s.columns s.keys s.primary) (x.table.named ∙ sym y.table.named) ∙ (ap (λ v. a_shape z.name v s.keys s.primary) c ∙ (ap (λ v. a_shape z.name z.columns v s.primary) k ∙ ap (λ v. a_shape z.name z.columns z.keys v) (x.table.primary ∙ sym y.table.primary)))
 
-kind_back : (k : ColumnKind) → type_kind (kind_type k) ≡ Some k
+kind_back : (k : ColumnKind) → column_type_kind (kind_type k) ≡ Some k
 kind_back column.Int = refl
 kind_back column.Str = refl
 kind_back column.Bool = refl
+kind_back column.OptInt = refl
+kind_back column.OptStr = refl
+kind_back column.OptBool = refl
 
 pub one_kind : (k j : ColumnKind) → kind_type k ≡ kind_type j → k ≡ j
-one_kind k j h = some_of (sym (kind_back k) ∙ (ap type_kind h ∙ kind_back j))
+one_kind k j h = some_of (sym (kind_back k) ∙ (ap column_type_kind h ∙ kind_back j))
 
 -- ---- heads of functions
 

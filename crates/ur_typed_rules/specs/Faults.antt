@@ -18,8 +18,8 @@ pub data Fault : Type 0 where
   too_large : Fault
   -- a kind that is found and the one that is wanted
   unkinded : List ℕ → List ℕ → Fault
-  -- a fault within SQL or of a tag, by its code and texts
-  told_there : ℕ → List ℕ → List ℕ → Fault
+  -- a fault within SQL or of a tag, as a refusal has it
+  told_there : Refusal → Fault
 
 abbrev pub TellsType : List (List ℕ) → Refusal → Fault → Type 0
 TellsType names r (unknown x) = Says r 7 x []
@@ -31,11 +31,11 @@ TellsType names r (misplaced x y) = Says r 13 x (apart_from x y)
 TellsType names r (not_so x y) = Says r 15 x (apart_from x y)
 TellsType names r too_large = Says r 16 (codes "65537") (codes "65536")
 TellsType names r (unkinded x y) = Says r 9 x (apart_from x y)
-TellsType names r (told_there c x y) = Says r c x y
+TellsType names r (told_there q) = Says r q.code q.left q.right
 
 -- a fault as a refusal has it
 abbrev pub as_refused : Refusal → Fault
-as_refused r = told_there r.code r.left r.right
+as_refused r = told_there r
 
 abbrev pub of_no_type : Fault
 of_no_type = unkinded (codes "another kind") (codes "Type")

@@ -1,5 +1,6 @@
 //! Refusals of instances.
-ghost use Rattle.std.specs.Prelude.{◌≡◌, codes, IfOk};
+ghost use Rattle.std.specs.Prelude.{◌≡◌, codes, IfOk, IsTrue};
+ghost use Rattle.ur_base.specs.Codes.{is_refusal_code};
 ghost use Rattle.ur_base.specs.declared.refusal.Refusal.{Refusal};
 ghost use Rattle.ur_base.specs.declared.refusal.Stop.TheVariants as stops;
 ghost use Rattle.ur_base.specs.Stopping.{Says};
@@ -13,6 +14,7 @@ use ur_tree::Typed;
 
 /// The refusal with this code and these texts, which stands at no place of the source.
 fn refusal(alloc: Global, code: u8, left: Text, right: &[u8]) -> Result<Stop, Memory>
+    requires { IsTrue (is_refusal_code code) }
     ensures { IfOk result (RefusesWith code left right.now) }
 {
     let span = Span {

@@ -17,13 +17,13 @@ use Rattle.ur_terms.specs.declared.term.Term.{Term}
 use Rattle.ur_terms.specs.declared.term.Function.{Function}
 use Rattle.ur_terms.specs.Types.{Signature, OpType, Cover, IsXml, HasType, FitsFunction}
 use Rattle.ur_code.specs.declared.code.Code.{Code}
-use Rattle.ur_code.specs.Fits.{signature, FitsRoute, Fits}
+use Rattle.ur_code.specs.Fits.{signature, FitsRoute, IsBasicCookie, Fits}
 use Rattle.ur_verify_operations.specs.Saying.{TwoTexts}
 use Rattle.ur_verify_operations.specs.Misfits.{UnlikeDeclared}
 use Rattle.ur_verify_operations.specs.Wanting.{patterns_in}
 use Rattle.ur_verify_operations.proofs.SameTypes.{many_same}
 use Rattle.ur_verify.specs.Laws.{MisfitsAreCauses}
-use Rattle.ur_verify.specs.Misfits.{StandsIn, itself, in_operand, in_argument, in_bound, in_let, in_test, in_yes, in_no, in_matched, in_branch, in_rows, in_body, MisfitAt, at_variable, at_string, at_operation, at_call, at_test, at_no, at_patterns, at_pattern, at_branch, at_rows, at_body, FunctionMisfit, RouteMisfit, at_target, at_params, at_page, at_form, RoutesMisfit, at_targets, at_route, in_functions, in_queries, in_changes, in_routes, in_tables}
+use Rattle.ur_verify.specs.Misfits.{StandsIn, itself, in_operand, in_argument, in_bound, in_let, in_test, in_yes, in_no, in_matched, in_branch, in_rows, in_body, MisfitAt, at_variable, at_string, at_operation, at_call, at_test, at_no, at_patterns, at_pattern, at_branch, at_rows, at_body, FunctionMisfit, RouteMisfit, at_target, at_params, at_page, at_form, RoutesMisfit, at_targets, at_route, in_functions, in_queries, in_changes, in_routes, in_tables, in_cookies}
 use Rattle.ur_verify.specs.Terms.{HaveAll, BranchFits, BranchesFit}
 use Rattle.ur_verify.proofs.Inferring.{all_types_once, have_at, branch_once}
 use Rattle.ur_verify.proofs.Once.{one_type, binds_once}
@@ -135,3 +135,4 @@ causes code said (in_queries (q, there, unfit, _)) h = unfit (All-contains (Quer
 causes code said (in_changes (c, there, unfit, _)) h = unfit (All-contains (ChangeFits code.schema) code.changes c h.changes there)
 causes code said (in_routes k) h = routes_broken code said k h
 causes code said (in_tables (shape, there, unfit, _)) h = unfit (All-contains (λ (z : TableShape). IsUtf8 z.name) code.schema.tables shape h.tables there)
+causes code said (in_cookies (c, there, unfit, _)) h = unfit (All-contains IsBasicCookie code.cookies c h.cookies there)

@@ -1,19 +1,18 @@
 -- What it is that an expression with parts has a kind, and that it reads columns.
-use Rattle.std.proofs.Common.{◌≡◌, Bool, List, Option, Some, None, refl, sym, ap, subst, ◌∙◌}
-use Rattle.std.specs.Prelude.{◌↔◌, IsTrue}
+use Rattle.std.proofs.Common.{◌≡◌, Bool, List, Some, None, refl, sym, ap, subst, ◌∙◌}
+use Rattle.std.specs.Prelude.{◌↔◌, IsTrue, IsSome}
 use denote.Hole.Carrier
-use Rattle.ur_values.specs.declared.value.Value.{Value}
-use Rattle.ur_values.specs.declared.value.Value.TheVariants as v
 use Rattle.ur_values.specs.declared.schema.ColumnKind.{ColumnKind}
 use Rattle.ur_values.specs.declared.schema.ColumnKind.TheVariants as kind
-use Rattle.ur_values.specs.Store.{FitsKind}
+use Rattle.ur_values.specs.Kinds.{inside}
 use Rattle.ur_sql.specs.declared.query.ColumnAt.{ColumnAt}
 use Rattle.ur_sql.specs.declared.scalar.Comparison.{Comparison}
-use Rattle.ur_sql.specs.declared.scalar.Scalar.{Scalar, more_of-Scalar as one, end_of-Scalar as end}
+use Rattle.ur_sql.specs.declared.scalar.Scalar.{Scalar}
 use Rattle.ur_sql.specs.declared.scalar.Scalar.TheBlock as block
 use Rattle.ur_sql.specs.declared.scalar.Scalar.TheVariants as s
-use Rattle.ur_sql.specs.Typing.{Kinds, Compares, HasKind, HasSomeKind, ReadsOnly}
-use Rattle.ur_sql.specs.Kinds.{constant_kind, scalar_kind}
+use Rattle.ur_sql.specs.Typing.{Kinds, Compares, HasKind, HasSomeKind, HasBasicKind, ReadsOnly}
+use Rattle.ur_sql.specs.Kinds.{scalar_kind}
+use Rattle.ur_sql.proofs.HeadKinds.{head_is}
 
 itself : {A : Type 0} → A ↔ A
 itself = ((λ a. a), (λ a. a))
@@ -52,25 +51,9 @@ module _ (ks : Kinds) where
   unfolding block.hidden-the_row-Scalar-0 Carrier.hidden
   kind_Compare c a b k = itself
 
-  value_head : (x : Value) (k : ColumnKind) → FitsKind x k → constant_kind x ≡ Some k
-  value_head (v.Int i) kind.Int h = refl
-  value_head (v.Str t) kind.Str h = refl
-  value_head (v.Bool b) kind.Bool h = refl
-  value_head _ _ h = absurd h
-
-  -- what stands at the head decides the kind
-  pub head_is : (e : Scalar) (k : ColumnKind) → HasKind ks e k → scalar_kind ks e ≡ Some k
-  head_is (s.Constant x) k h = value_head x k h
-  head_is (s.Column i c) k h = h
-  head_is (s.Param n) k h = h
-  head_is (s.Or' _ (one a end) _ (one b end)) k (e, _, _) = ap (λ j. Some j) (sym e)
-  head_is (s.And' _ (one a end) _ (one b end)) k (e, _, _) = ap (λ j. Some j) (sym e)
-  head_is (s.Add' _ (one a end) _ (one b end)) k (e, _, _) = ap (λ j. Some j) (sym e)
-  head_is (s.Sub' _ (one a end) _ (one b end)) k (e, _, _) = ap (λ j. Some j) (sym e)
-  head_is (s.Mul' _ (one a end) _ (one b end)) k (e, _, _) = ap (λ j. Some j) (sym e)
-  head_is (s.Not' _ (one a end)) k (e, _) = ap (λ j. Some j) (sym e)
-  head_is (s.Neg' _ (one a end)) k (e, _) = ap (λ j. Some j) (sym e)
-  head_is (s.Compare' c _ (one a end) _ (one b end)) k (e, _) = ap (λ j. Some j) (sym e)
+  pub kind_Present : (a : Scalar) (k : ColumnKind) → HasKind ks (s.Present a) k ↔ ((j : ColumnKind) × (inside k ≡ Some j) × HasKind ks a j)
+  unfolding block.hidden-the_row-Scalar-0 Carrier.hidden
+  kind_Present a k = itself
 
   none_some : {A : Type 0} {k : ColumnKind} → None ≡ Some k → A
   none_some e = absurd (apart e)
@@ -79,7 +62,7 @@ module _ (ks : Kinds) where
       apart e = cc
 
   only : (a x : Scalar) (of j : ColumnKind) → x ≡ a → scalar_kind ks x ≡ Some of → HasKind ks a j → j ≡ of
-  only a x of j f e h = some_same (sym (head_is a j h) ∙ ap (scalar_kind ks) (sym f) ∙ e)
+  only a x of j f e h = some_same (sym (head_is ks a j h) ∙ ap (scalar_kind ks) (sym f) ∙ e)
     where
       some_same : {m n : ColumnKind} → Some m ≡ Some n → m ≡ n
       some_same e = cc
@@ -91,11 +74,43 @@ module _ (ks : Kinds) where
   pub some_kind : (e : Scalar) (of : ColumnKind) → scalar_kind ks e ≡ Some of → (r : Bool) → IsTrue r ↔ HasKind ks e of → IsTrue r ↔ HasSomeKind ks e
   some_kind e of h r w = ((λ q. (of, w.0 q)), (λ k. w.1 (subst (HasKind ks e) (only e e of k.0 refl h k.1) k.1)))
 
+  -- the same of a kind that is not optional
+  pub basic_kind : (e : Scalar) (of : ColumnKind) → scalar_kind ks e ≡ Some of → inside of ≡ None → (r : Bool) → IsTrue r ↔ HasKind ks e of →
+      IsTrue r ↔ HasBasicKind ks e
+  basic_kind e of h b r w = ((λ q. (of, b, w.0 q)), (λ k. w.1 (subst (HasKind ks e) (only e e of k.0 refl h k.2) k.2)))
+
+  pub no_basic_kind : (e : Scalar) (of j : ColumnKind) → scalar_kind ks e ≡ Some of → inside of ≡ Some j → HasBasicKind ks e → ⊥
+  no_basic_kind e of j h b k = none_some (sym k.1 ∙ ap inside (only e e of k.0 refl h k.2) ∙ b)
+
+  pub without_any : (e : Scalar) → scalar_kind ks e ≡ None → HasSomeKind ks e → ⊥
+  without_any e h k = none_some (sym h ∙ head_is ks e k.0 k.1)
+
+  pub without_kind : (e : Scalar) → scalar_kind ks e ≡ None → HasBasicKind ks e → ⊥
+  without_kind e h k = none_some (sym h ∙ head_is ks e k.0 k.2)
+
+  -- NULL and SOME
+  pub null_kind : (by : Scalar) (j k : ColumnKind) → by ≡ s.Null j → (r : Bool) → IsTrue r ↔ ((k ≡ j) × IsSome (inside j)) → IsTrue r ↔ HasKind ks by k
+  null_kind by j k is r w = ((λ q. subst (λ z. HasKind ks z k) (sym is) (w.0 q)), (λ q. w.1 (subst (λ z. HasKind ks z k) is q)))
+
+  pub present_none : (by a : Scalar) (k : ColumnKind) → by ≡ s.Present a → inside k ≡ None → HasKind ks by k → ⊥
+  present_none by a k is e q = let h = (kind_Present a k).0 (subst (λ z. HasKind ks z k) is q) in none_some (sym e ∙ h.1)
+
+  pub present_some : (by a x : Scalar) (k of : ColumnKind) → by ≡ s.Present a → x ≡ a → inside k ≡ Some of → (r : Bool) → IsTrue r ↔ HasKind ks x of →
+      IsTrue r ↔ HasKind ks by k
+  present_some by a x k of is f e r w = (
+    (λ q. subst (λ z. HasKind ks z k) (sym is) ((kind_Present a k).1 (of, e, subst (λ z. HasKind ks z of) f (w.0 q)))),
+    (λ q. let h = (kind_Present a k).0 (subst (λ z. HasKind ks z k) is q) in w.1
+        (subst (λ z. HasKind ks z of) (sym f) (subst (HasKind ks a) (same_some (sym h.1 ∙ e)) h.2))),
+  )
+    where
+      same_some : {m n : ColumnKind} → Some m ≡ Some n → m ≡ n
+      same_some e = cc
+
   -- a comparison of what has no kind
   pub compare_none : (by : Scalar) (c : Comparison) (a b x : Scalar) (k : ColumnKind) → by ≡ s.Compare c a b → x ≡ a → scalar_kind ks x ≡ None → HasKind ks by k → ⊥
   compare_none by c a b x k is f e q =
       let h = (kind_Compare c a b k).0 (subst (λ z. HasKind ks z k) is q) in
-      none_some (sym e ∙ ap (scalar_kind ks) f ∙ head_is a h.1.0 h.1.1)
+      none_some (sym e ∙ ap (scalar_kind ks) f ∙ head_is ks a h.1.0 h.1.1)
 
   -- what a comparison of this kind asks for
   pub compare_parts : (by : Scalar) (c : Comparison) (a b x : Scalar) (k of : ColumnKind) → by ≡ s.Compare c a b → x ≡ a → scalar_kind ks x ≡ Some of → HasKind ks by k
@@ -141,3 +156,7 @@ module _ (group : List ColumnAt) where
   pub reads_Neg : (a : Scalar) → ReadsOnly group (s.Neg a) ↔ ReadsOnly group a
   unfolding block.hidden-the_row-Scalar-0 Carrier.hidden
   reads_Neg a = itself
+
+  pub reads_Present : (a : Scalar) → ReadsOnly group (s.Present a) ↔ ReadsOnly group a
+  unfolding block.hidden-the_row-Scalar-0 Carrier.hidden
+  reads_Present a = itself

@@ -16,7 +16,8 @@ use Rattle.ur_terms.specs.declared.term.Term.TheVariants as t
 use Rattle.ur_terms.specs.declared.term.Function.{Function}
 use Rattle.ur_terms.specs.Types.{Signature, OpType, Binds, Cover, IsXml, HasType}
 use Rattle.ur_code.specs.declared.code.Code.{Code}
-use Rattle.ur_code.specs.Fits.{signature}
+use Rattle.ur_code.specs.declared.code.Cookie.{Cookie}
+use Rattle.ur_code.specs.Fits.{IsBasicCookie, signature}
 use Rattle.ur_code.specs.RouteTypes.{route_params}
 use Rattle.ur_verify_operations.specs.Misfits.{OperationMisfit, PatternMisfit, UnlikeDeclared, NoText}
 use Rattle.ur_verify_operations.specs.Saying.{TwoTexts, two_types, one_type, nothing, OtherTypes}
@@ -156,10 +157,15 @@ pub data RoutesMisfit (code : Code) (said : TwoTexts) : Type 0 where
 abbrev pub TablesMisfit : Code → TwoTexts → Type 0
 TablesMisfit code said = (shape : TableShape) × Contains code.schema.tables shape × (IsUtf8 shape.name → ⊥) × (said ≡ nothing (codes "the name of a table"))
 
--- a function, query, change, route or table of the code does not fit
+-- a cookie holds an option
+abbrev pub CookiesMisfit : Code → TwoTexts → Type 0
+CookiesMisfit code said = (c : Cookie) × Contains code.cookies c × (IsBasicCookie c → ⊥) × (said ≡ nothing (codes "a cookie of int, string or bool"))
+
+-- a function, query, change, route, table or cookie of the code does not fit
 pub data CodeMisfit (code : Code) (said : TwoTexts) : Type 0 where
   in_functions : FunctionsMisfit code said → CodeMisfit code said
   in_queries : QueriesMisfit code said → CodeMisfit code said
   in_changes : ChangesMisfit code said → CodeMisfit code said
   in_routes : RoutesMisfit code said → CodeMisfit code said
   in_tables : TablesMisfit code said → CodeMisfit code said
+  in_cookies : CookiesMisfit code said → CodeMisfit code said

@@ -1,6 +1,6 @@
 //! Columns, antiquotes and values of a kind.
 ghost use Rattle.std.specs.Prelude.{◌≡◌, ◌↔◌, IsTrue, Some, IsSome, IfOk, Contains, slice_get};
-ghost use Rattle.ur_values.specs.Store.{FitsKind};
+ghost use Rattle.ur_values.specs.Store.{FitsBasic};
 ghost use Rattle.ur_sql.specs.Kinds.{constant_kind};
 ghost use Rattle.ur_verify.specs.Scope.{columns_of, kind_in};
 
@@ -10,9 +10,9 @@ use ur_base::{List, Memory, Text};
 use ur_sql::{ColumnAt, Item};
 use ur_values::{ColumnKind, Value};
 
-/// Whether a value may stand in a column of this kind.
-pub fn fits_kind(value: &Value, kind: ColumnKind) -> bool
-    ensures { IsTrue result ↔ FitsKind value.now kind }
+/// Whether a constant has this kind.
+pub fn fits_basic(value: &Value, kind: ColumnKind) -> bool
+    ensures { IsTrue result ↔ FitsBasic value.now kind }
 {
     match value {
         Value::Int(int) => int_fits(*int, kind),
@@ -28,17 +28,20 @@ pub fn fits_kind(value: &Value, kind: ColumnKind) -> bool
 }
 
 fn int_fits(int: i64, kind: ColumnKind) -> bool
-    ensures { IsTrue result ↔ FitsKind (Value.Int int) kind }
+    ensures { IsTrue result ↔ FitsBasic (Value.Int int) kind }
 {
     match kind {
         ColumnKind::Int => true,
         ColumnKind::Str => false,
         ColumnKind::Bool => false,
+        ColumnKind::OptInt => false,
+        ColumnKind::OptStr => false,
+        ColumnKind::OptBool => false,
     }
 }
 
 fn text_fits(text: &Text, kind: ColumnKind) -> bool
-    ensures { IsTrue result ↔ FitsKind (Value.Str text.now) kind }
+    ensures { IsTrue result ↔ FitsBasic (Value.Str text.now) kind }
 {
     match kind {
         ColumnKind::Int => false,
@@ -47,16 +50,22 @@ fn text_fits(text: &Text, kind: ColumnKind) -> bool
             Err(_) => false,
         },
         ColumnKind::Bool => false,
+        ColumnKind::OptInt => false,
+        ColumnKind::OptStr => false,
+        ColumnKind::OptBool => false,
     }
 }
 
 fn bool_fits(holds: bool, kind: ColumnKind) -> bool
-    ensures { IsTrue result ↔ FitsKind (Value.Bool holds) kind }
+    ensures { IsTrue result ↔ FitsBasic (Value.Bool holds) kind }
 {
     match kind {
         ColumnKind::Int => false,
         ColumnKind::Str => false,
         ColumnKind::Bool => true,
+        ColumnKind::OptInt => false,
+        ColumnKind::OptStr => false,
+        ColumnKind::OptBool => false,
     }
 }
 

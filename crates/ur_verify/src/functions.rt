@@ -1,17 +1,17 @@
-//! Functions, queries, changes and tables that fit.
+//! Functions, queries, changes, tables and cookies that fit.
 ghost use Rattle.std.specs.Prelude.{◌≡◌, ◌↔◌, IsTrue, IsUtf8, All};
 ghost use Rattle.ur_sql.specs.Typing.{QueryFits, ChangeFits};
 ghost use Rattle.ur_terms.specs.Types.{FitsFunction};
-ghost use Rattle.ur_code.specs.Fits.{signature};
+ghost use Rattle.ur_code.specs.Fits.{IsBasicCookie, signature};
 ghost use Rattle.ur_verify_operations.specs.Answering.{Answers, Says};
-ghost use Rattle.ur_verify.specs.Misfits.{ChangesMisfit, FunctionMisfit, FunctionsMisfit, QueriesMisfit, TablesMisfit};
+ghost use Rattle.ur_verify.specs.Misfits.{ChangesMisfit, CookiesMisfit, FunctionMisfit, FunctionsMisfit, QueriesMisfit, TablesMisfit};
 
 use crate::environment::Environment;
 use crate::infer::type_of;
 use crate::{change_fits, query_fits};
 use std::alloc::Global;
 use std::str;
-use ur_code::Code;
+use ur_code::{Code, Cookie};
 use ur_terms::Function;
 use ur_values::{TableShape, same_type};
 use ur_verify_operations::{Untyped, mismatch, no_type};
@@ -79,6 +79,28 @@ pub fn tables_fit(alloc: Global, code: &Code) -> Result<(), Untyped>
     for table in code.schema.tables.as_slice() {
         if !is_named(table) {
             return Err(Untyped::Misfit(no_type(alloc, b"the name of a table")?));
+        }
+    }
+    Ok(())
+}
+
+fn is_basic(cookie: &Cookie) -> bool
+    ensures { IsTrue result ↔ IsBasicCookie cookie.now }
+{
+    match cookie.of.inside() {
+        None => true,
+        Some(_) => false,
+    }
+}
+
+/// No cookie holds an option.
+pub fn cookies_fit(alloc: Global, code: &Code) -> Result<(), Untyped>
+    ensures fits { Answers (λ u. All IsBasicCookie code.now.cookies) result }
+    ensures told { Says (CookiesMisfit code.now) result }
+{
+    for cookie in code.cookies.as_slice() {
+        if !is_basic(cookie) {
+            return Err(Untyped::Misfit(no_type(alloc, b"a cookie of int, string or bool")?));
         }
     }
     Ok(())

@@ -7,7 +7,7 @@ ghost use Rattle.ur_sql.specs.Typing.{AggregateFits, AreConditions, BoundFits, F
 ghost use Rattle.ur_verify.specs.Scope.{columns_of, kind_in, scope};
 
 use crate::columns::{column_kind, columns_of, has_column, is_kind, kind_at};
-use crate::scalars::{has_kind, has_some_kind, reads_only};
+use crate::scalars::{has_basic_kind, has_kind, has_some_kind, reads_only};
 use std::alloc::Global;
 use ur_base::{List, Memory, Name};
 use ur_sql::{Aggregate, Bound, ColumnAt, Field, Item, OrderKey, Query, Scalar};
@@ -145,8 +145,8 @@ fn aggregate_fits(aggregate: &Aggregate, params: &[ColumnKind], items: &[List<Co
     match aggregate {
         Aggregate::Count => true,
         Aggregate::Sum(by) => has_kind(by, params, items, ColumnKind::Int),
-        Aggregate::Min(by) => has_some_kind(by, params, items),
-        Aggregate::Max(by) => has_some_kind(by, params, items),
+        Aggregate::Min(by) => has_basic_kind(by, params, items),
+        Aggregate::Max(by) => has_basic_kind(by, params, items),
     }
 }
 

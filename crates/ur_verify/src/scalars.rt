@@ -1,10 +1,11 @@
 //! Kinds of expressions, and the columns that they read.
-ghost use Rattle.std.specs.Prelude.{◌≡◌, ◌≢◌, ◌↔◌, IsTrue};
-ghost use Rattle.ur_sql.specs.Typing.{Compares, HasKind, HasSomeKind, ReadsOnly};
-ghost use Rattle.ur_sql.specs.Kinds.{scalar_kind};
+ghost use Rattle.std.specs.Prelude.{◌≡◌, ◌↔◌, IsTrue, IsSome};
+ghost use Rattle.ur_sql.specs.Typing.{Compares, HasKind, HasSomeKind, HasBasicKind, ReadsOnly};
+ghost use Rattle.ur_values.specs.Kinds.{inside};
+ghost use Rattle.ur_sql.specs.Kinds.{plain_kind, scalar_kind};
 ghost use Rattle.ur_verify.specs.Scope.{scope};
 
-use crate::columns::{column_kind, fits_kind, has_column, is_kind, kind_at, value_kind};
+use crate::columns::{column_kind, fits_basic, has_column, is_kind, kind_at, value_kind};
 use ur_base::List;
 use ur_sql::{ColumnAt, Comparison, Scalar};
 use ur_values::ColumnKind;
@@ -19,7 +20,7 @@ pub fn has_kind(
     ensures { IsTrue result ↔ HasKind (scope params.now items.now) by.now kind }
 {
     match by {
-        Scalar::Constant(value) => fits_kind(value, kind),
+        Scalar::Constant(value) => fits_basic(value, kind),
         Scalar::Column(item, column) => is_kind(column_kind(items, *item, *column), kind),
         Scalar::Param(number) => is_kind(kind_at(params, *number), kind),
         Scalar::Or(a, b) => {
@@ -83,7 +84,25 @@ pub fn has_kind(
             }
             has_kind(a.get(), params, items, ColumnKind::Int)
         }
+        Scalar::Null(of) => is_null_kind(*of, kind),
+        Scalar::Present(a) => match kind.inside() {
+            None => false,
+            Some(of) => has_kind(a.get(), params, items, of),
+        },
     }
+}
+
+/// Whether NULL of one kind has another.
+fn is_null_kind(of: ColumnKind, kind: ColumnKind) -> bool
+    ensures { IsTrue result ↔ ((kind ≡ of) × IsSome (inside of)) }
+{
+    same_kind(kind, of) && is_optional(of)
+}
+
+fn is_optional(kind: ColumnKind) -> bool
+    ensures { IsTrue result ↔ IsSome (inside kind) }
+{
+    kind.inside().is_some()
 }
 
 fn same_kind(kind: ColumnKind, other: ColumnKind) -> bool
@@ -98,16 +117,29 @@ fn compares(comparison: Comparison, kind: ColumnKind) -> bool
     match comparison {
         Comparison::Equal => true,
         Comparison::Unequal => true,
-        Comparison::Less => kind != ColumnKind::Bool,
-        Comparison::LessEqual => kind != ColumnKind::Bool,
-        Comparison::Greater => kind != ColumnKind::Bool,
-        Comparison::GreaterEqual => kind != ColumnKind::Bool,
+        Comparison::Less => kind.is_ordered(),
+        Comparison::LessEqual => kind.is_ordered(),
+        Comparison::Greater => kind.is_ordered(),
+        Comparison::GreaterEqual => kind.is_ordered(),
     }
 }
 
-/// The kind that an expression has, if it has one: what stands at its head decides it.
+/// The kind that an expression has, if it has one: what stands at its head decides it, and under SOME what stands inside.
 fn head_kind(by: &Scalar, params: &[ColumnKind], items: &[List<ColumnKind>]) -> Option<ColumnKind>
     ensures { result ≡ scalar_kind (scope params.now items.now) by.now }
+{
+    match by {
+        Scalar::Present(a) => match plain_kind(a.get(), params, items) {
+            None => None,
+            Some(of) => of.optional(),
+        },
+        _ => plain_kind(by, params, items),
+    }
+}
+
+/// The kind of an expression that is no SOME.
+fn plain_kind(by: &Scalar, params: &[ColumnKind], items: &[List<ColumnKind>]) -> Option<ColumnKind>
+    ensures { result ≡ plain_kind (scope params.now items.now) by.now }
 {
     match by {
         Scalar::Constant(value) => value_kind(value),
@@ -121,6 +153,8 @@ fn head_kind(by: &Scalar, params: &[ColumnKind], items: &[List<ColumnKind>]) -> 
         Scalar::Sub(_, _) => Some(ColumnKind::Int),
         Scalar::Mul(_, _) => Some(ColumnKind::Int),
         Scalar::Neg(_) => Some(ColumnKind::Int),
+        Scalar::Null(kind) => Some(*kind),
+        Scalar::Present(_) => None,
     }
 }
 
@@ -131,6 +165,19 @@ pub fn has_some_kind(by: &Scalar, params: &[ColumnKind], items: &[List<ColumnKin
     match head_kind(by, params, items) {
         None => false,
         Some(kind) => has_kind(by, params, items, kind),
+    }
+}
+
+/// Whether an expression has a kind that is not optional.
+pub fn has_basic_kind(by: &Scalar, params: &[ColumnKind], items: &[List<ColumnKind>]) -> bool
+    ensures { IsTrue result ↔ HasBasicKind (scope params.now items.now) by.now }
+{
+    match head_kind(by, params, items) {
+        None => false,
+        Some(kind) => match kind.inside() {
+            None => has_kind(by, params, items, kind),
+            Some(_) => false,
+        },
     }
 }
 
@@ -150,5 +197,7 @@ pub fn reads_only(by: &Scalar, group: &[ColumnAt]) -> bool
         Scalar::Sub(a, b) => reads_only(a.get(), group) && reads_only(b.get(), group),
         Scalar::Mul(a, b) => reads_only(a.get(), group) && reads_only(b.get(), group),
         Scalar::Neg(a) => reads_only(a.get(), group),
+        Scalar::Null(_) => true,
+        Scalar::Present(a) => reads_only(a.get(), group),
     }
 }

@@ -7,7 +7,7 @@ ghost use Rattle.ur_verify.specs.Misfits.{CodeMisfit};
 ghost use Rattle.ur_verify_operations.specs.Saying.{IsFound};
 ghost use Rattle.ur_verify.specs.Verifying.{ExplainsUnfit};
 
-use crate::functions::{changes_fit, functions_fit, queries_fit, tables_fit};
+use crate::functions::{changes_fit, cookies_fit, functions_fit, queries_fit, tables_fit};
 use crate::routes::routes_fit;
 use std::alloc::Global;
 use std::marker::Model;
@@ -74,7 +74,8 @@ fn code_fits(alloc: Global, code: &Code) -> Result<(), Untyped>
     queries_fit(alloc, code)?;
     changes_fit(alloc, code)?;
     routes_fit(alloc, code)?;
-    tables_fit(alloc, code)
+    tables_fit(alloc, code)?;
+    cookies_fit(alloc, code)
 }
 
 /// The refusal of code stands at no place of the source.

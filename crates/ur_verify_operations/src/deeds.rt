@@ -343,7 +343,8 @@ pub fn get_cookie(
     let Some(cookie) = code.cookies.get(cookie as usize) else {
         return Err(Untyped::Misfit(no_type(alloc, b"a cookie")?));
     };
-    let gives = optional(alloc, &kind_type(cookie.of))?;
+    let of = kind_type(alloc, cookie.of)?;
+    let gives = optional(alloc, &of)?;
     exactly(alloc, code, ts, &[], gives)
 }
 
@@ -359,5 +360,6 @@ pub fn set_cookie(
     let Some(cookie) = code.cookies.get(cookie as usize) else {
         return Err(Untyped::Misfit(no_type(alloc, b"a cookie")?));
     };
-    exactly(alloc, code, ts, &[kind_type(cookie.of)], unit(alloc))
+    let of = kind_type(alloc, cookie.of)?;
+    exactly(alloc, code, ts, &[of], unit(alloc))
 }

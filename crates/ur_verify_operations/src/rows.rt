@@ -2,7 +2,7 @@
 ghost use Rattle.std.specs.Prelude.{◌≡◌, IfOk, map, Some, slice_get, option_map};
 ghost use Rattle.ur_values.specs.declared.types.ValueType.TheVariants as ty;
 ghost use Rattle.ur_sql.specs.Typing.{Kinds, column_kind, kinds_in};
-ghost use Rattle.ur_sql.specs.Kinds.{constant_kind, scalar_kind};
+ghost use Rattle.ur_sql.specs.Kinds.{constant_kind, plain_kind, scalar_kind};
 ghost use Rattle.ur_terms.specs.Types.{unit_type, record_type};
 ghost use Rattle.ur_code.specs.RowType as row;
 ghost use Rattle.ur_code.specs.RouteTypes as route;
@@ -15,13 +15,17 @@ use ur_sql::{Aggregate, ColumnAt, Field, Query, Scalar};
 use ur_tags::{FormField, Param, Route};
 use ur_values::{ColumnKind, TypeField, Value, ValueType};
 
-pub fn kind_type(kind: ColumnKind) -> ValueType
-    ensures { result ≡ row.kind_type kind }
+/// The type of a kind.
+pub fn kind_type(alloc: Global, kind: ColumnKind) -> Result<ValueType, Memory>
+    ensures { IfOk result (λ t. t ≡ row.kind_type kind) }
 {
     match kind {
-        ColumnKind::Int => ValueType::Int,
-        ColumnKind::Str => ValueType::Str,
-        ColumnKind::Bool => ValueType::Bool,
+        ColumnKind::Int => Ok(ValueType::Int),
+        ColumnKind::Str => Ok(ValueType::Str),
+        ColumnKind::Bool => Ok(ValueType::Bool),
+        ColumnKind::OptInt => optional(alloc, &ValueType::Int),
+        ColumnKind::OptStr => optional(alloc, &ValueType::Str),
+        ColumnKind::OptBool => optional(alloc, &ValueType::Bool),
     }
 }
 
@@ -30,7 +34,7 @@ pub fn kind_types(alloc: Global, kinds: &[ColumnKind]) -> Result<List<ValueType>
 {
     let mut types = List::new(alloc);
     for kind in kinds {
-        types.push(kind_type(*kind))?;
+        types.push(kind_type(alloc, *kind)?)?;
     }
     Ok(types)
 }
@@ -69,8 +73,22 @@ fn constant_kind(value: &Value) -> Option<ColumnKind>
     }
 }
 
+/// The kind that an expression may have: what stands at its head decides it, and under SOME what stands inside.
 fn scalar_kind(query: &Query, by: &Scalar) -> Option<ColumnKind>
     ensures { result ≡ scalar_kind (kinds_in query.now) by.now }
+{
+    match by {
+        Scalar::Present(a) => match plain_kind(query, a.get()) {
+            None => None,
+            Some(of) => of.optional(),
+        },
+        _ => plain_kind(query, by),
+    }
+}
+
+/// The kind of an expression that is no SOME.
+fn plain_kind(query: &Query, by: &Scalar) -> Option<ColumnKind>
+    ensures { result ≡ plain_kind (kinds_in query.now) by.now }
 {
     match by {
         Scalar::Constant(value) => constant_kind(value),
@@ -84,15 +102,17 @@ fn scalar_kind(query: &Query, by: &Scalar) -> Option<ColumnKind>
         Scalar::Sub(_, _) => Some(ColumnKind::Int),
         Scalar::Mul(_, _) => Some(ColumnKind::Int),
         Scalar::Neg(_) => Some(ColumnKind::Int),
+        Scalar::Null(kind) => Some(*kind),
+        Scalar::Present(_) => None,
     }
 }
 
-fn kind_type_of(kind: Option<ColumnKind>) -> Option<ValueType>
-    ensures { result ≡ option_map row.kind_type kind }
+fn kind_type_of(alloc: Global, kind: Option<ColumnKind>) -> Result<Option<ValueType>, Memory>
+    ensures { IfOk result (λ t. t ≡ option_map row.kind_type kind) }
 {
     match kind {
-        None => None,
-        Some(kind) => Some(kind_type(kind)),
+        None => Ok(None),
+        Some(kind) => Ok(Some(kind_type(alloc, kind)?)),
     }
 }
 
@@ -101,7 +121,7 @@ fn optional_kind(alloc: Global, kind: Option<ColumnKind>) -> Result<Option<Value
 {
     match kind {
         None => Ok(None),
-        Some(kind) => Ok(Some(optional(alloc, &kind_type(kind))?)),
+        Some(kind) => Ok(Some(optional(alloc, &kind_type(alloc, kind)?)?)),
     }
 }
 
@@ -121,13 +141,17 @@ fn aggregate_type(
 }
 
 /// The type of a column of the answer, if the column is there.
-fn column_field(query: &Query, column: &(Name, ColumnAt)) -> Option<TypeField>
-    ensures { option_map pair result ≡ row.column_type (kinds_in query.now) column.now }
+fn column_field(
+    alloc: Global,
+    query: &Query,
+    column: &(Name, ColumnAt),
+) -> Result<Option<TypeField>, Memory>
+    ensures { IfOk result (λ f. option_map pair f ≡ row.column_type (kinds_in query.now) column.now) }
 {
     let kind = column_kind(query, column.1.item, column.1.column);
-    match kind_type_of(kind) {
-        None => None,
-        Some(of) => Some(TypeField { name: column.0, of }),
+    match kind_type_of(alloc, kind)? {
+        None => Ok(None),
+        Some(of) => Ok(Some(TypeField { name: column.0, of })),
     }
 }
 
@@ -140,7 +164,7 @@ fn columns_type(
 {
     let mut fields = List::new(alloc);
     for column in columns {
-        match column_field(query, column) {
+        match column_field(alloc, query, column)? {
             None => return Ok(None),
             Some(field) => fields.push(field)?,
         }
@@ -164,7 +188,7 @@ fn field_type(alloc: Global, query: &Query, field: &Field) -> Result<Option<Type
         Field::Columns(name, columns) => {
             Ok(named(*name, columns_type(alloc, query, columns.as_slice())?))
         }
-        Field::Single(name, by) => Ok(named(*name, kind_type_of(scalar_kind(query, by)))),
+        Field::Single(name, by) => Ok(named(*name, kind_type_of(alloc, scalar_kind(query, by))?)),
         Field::Over(name, aggregate) => Ok(named(*name, aggregate_type(alloc, query, aggregate)?)),
     }
 }

@@ -742,7 +742,9 @@ bound::further-returns-in-None-clause-refused t c =
 
 pub embedded::set_cookie-returns-clause-typed : goal.embedded::set_cookie-returns-clause-typed
 embedded::set_cookie-returns-clause-typed t c =
-    λ m. cookie-gives c.args.around.now c.args.sites.now c.typed.new.sites c.args.name.now c.args.value.now c.in_ok-e.e.now c.in_ok-cookie.cookie.number c.in_ok-cookie.cookie.kind c.kind_type-of.result m c.in_ok-out.out c.in_ok-made.made c.in_ok-cookie.ensures.cookie c.in_ok-e.ensures.value c.kind_type-of.ensures c.in_ok-out.ensures.typed c.in_ok-made.ensures
+    λ m. cookie-gives c.args.around.now c.args.sites.now c.typed.new.sites c.args.name.now c.args.value.now c.in_ok-e.e.now c.in_ok-cookie.cookie.number
+    c.in_ok-cookie.cookie.kind c.in_ok-of.of m c.in_ok-out.out c.in_ok-made.made c.in_ok-cookie.ensures.cookie c.in_ok-e.ensures.value c.in_ok-of.ensures
+    c.in_ok-out.ensures.typed c.in_ok-made.ensures
 
 pub embedded::set_cookie-returns-in_err-cookie-clause-refused : goal.embedded::set_cookie-returns-in_err-cookie-clause-refused
 embedded::set_cookie-returns-in_err-cookie-clause-refused t c =
@@ -754,7 +756,9 @@ embedded::set_cookie-returns-in_err-e-clause-refused t c =
 
 pub embedded::set_cookie-returns-in_err-out-clause-refused : goal.embedded::set_cookie-returns-in_err-out-clause-refused
 embedded::set_cookie-returns-in_err-out-clause-refused t c =
-    refused-exit c.from_residual-in_err-out.result c.in_err-out.field-0.0 c.from_residual-in_err-out.ensures.1 (λ r h m. cookie-tells c.args.around.now c.args.sites.now c.args.name.now c.args.value.now c.in_ok-e.e.now c.in_ok-cookie.cookie.number c.in_ok-cookie.cookie.kind c.kind_type-of.result m r c.in_ok-cookie.ensures.cookie c.in_ok-e.ensures.value c.kind_type-of.ensures h) c.in_err-out.ensures.refused
+    refused-exit c.from_residual-in_err-out.result c.in_err-out.field-0.0 c.from_residual-in_err-out.ensures.1
+    (λ r h m. cookie-tells c.args.around.now c.args.sites.now c.args.name.now c.args.value.now c.in_ok-e.e.now c.in_ok-cookie.cookie.number
+    c.in_ok-cookie.cookie.kind c.in_ok-of.of m r c.in_ok-cookie.ensures.cookie c.in_ok-e.ensures.value c.in_ok-of.ensures h) c.in_err-out.ensures.refused
 
 pub walk::walk_statement-returns-in-SetCookie-clause-typed : goal.walk::walk_statement-returns-in-SetCookie-clause-typed
 walk::walk_statement-returns-in-SetCookie-clause-typed t c =

@@ -17,4 +17,4 @@ returns-in_err-cookie-clause-refused c =
 pub returns-clause-cookie : goal.returns-clause-cookie
 returns-clause-cookie c =
     get-made c.args.around.now c.args.name.now c.in_ok-cookie.cookie.number c.in_ok-cookie.cookie.kind c.in_ok-option.option c.in_ok-of.of c.in_ok-made.made c.in_ok-cookie.ensures.cookie
-    (c.in_ok-option.ensures ∙ ap option_of c.kind_type.ensures) c.in_ok-of.ensures c.in_ok-made.ensures
+    (c.in_ok-option.ensures ∙ ap option_of c.in_ok-inner.ensures) c.in_ok-of.ensures c.in_ok-made.ensures

@@ -1,6 +1,6 @@
 use Rattle.ur_check_scopes.specs.Views.{env_in}
 use Rattle.ur_check_scopes.proofs.Exits.{refused-exit, refuses}
-use Rattle.ur_sqltype.proofs.Values.{stands_there}
+use Rattle.ur_sqltype.proofs.SqltableValues.{stands_there}
 use Rattle.ur_check_heads.specs.Heading.{BreaksSides, BreaksCons, some_sides}
 use Rattle.ur_check_heads.proofs.heads.cons_fit.Goals as goal
 

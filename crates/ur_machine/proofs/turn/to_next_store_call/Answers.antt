@@ -1,5 +1,6 @@
 use Rattle.std.proofs.Common.{◌≤◌, sym, subst, refl}
 use Rattle.ur_machine.specs.Answers.{sites_of}
+use Rattle.ur_machine.specs.declared.reached.Reached.TheVariants as reached
 use Rattle.ur_machine.proofs.Doing.{fewer_ready, store_call_at}
 use Rattle.ur_machine.proofs.Told.{where_told}
 use Rattle.ur_machine.proofs.Turning.{ran_page, ran_failed, ran_spent, ran_stops, ran_on, ran_exit}
@@ -19,13 +20,13 @@ returns-in_err-value-in-Store-clause-ran g c =
 
 pub returns-in_ok-turn-in-Page-clause-ran : goal.returns-in_ok-turn-in-Page-clause-ran
 returns-in_ok-turn-in-Page-clause-ran g c =
-    ran_page _ c.args.code.now c.args.machine.now c.advance.new.self _ _ _ _ c.requires.kept c.requires.under_way (no_step (sites_of c.args.code.now c.args.patterns.now) c.args.cache.now c.args.cache.now (g.K.Keeper.reads c.args.keeper.now) (g.K.Keeper.reads c.args.keeper.now) refl refl) c.in-Page.page c.in_ok-turn-in-Page.turn c.in-Page.ensures.ends c.in_ok-turn-in-Page.ensures
+    ran_page _ c.args.code.now c.args.machine.now c.advance.new.self _ _ _ _ c.requires.kept c.requires.under_way (no_step c.args.code.now (sites_of c.args.code.now c.args.patterns.now) c.args.cache.now c.args.cache.now (g.K.Keeper.reads c.args.keeper.now) (g.K.Keeper.reads c.args.keeper.now) reached.Nothing refl refl refl) c.in-Page.page c.in_ok-turn-in-Page.turn c.in-Page.ensures.ends c.in_ok-turn-in-Page.ensures
 
 pub returns-in-Failed-clause-ran : goal.returns-in-Failed-clause-ran
-returns-in-Failed-clause-ran g c = ran_failed _ c.args.code.now c.args.machine.now c.advance.new.self _ _ _ _ c.requires.kept c.requires.under_way (no_step (sites_of c.args.code.now c.args.patterns.now) c.args.cache.now c.args.cache.now (g.K.Keeper.reads c.args.keeper.now) (g.K.Keeper.reads c.args.keeper.now) refl refl) c.in-Failed.body c.in-Failed.ensures.ends
+returns-in-Failed-clause-ran g c = ran_failed _ c.args.code.now c.args.machine.now c.advance.new.self _ _ _ _ c.requires.kept c.requires.under_way (no_step c.args.code.now (sites_of c.args.code.now c.args.patterns.now) c.args.cache.now c.args.cache.now (g.K.Keeper.reads c.args.keeper.now) (g.K.Keeper.reads c.args.keeper.now) reached.Nothing refl refl refl) c.in-Failed.body c.in-Failed.ensures.ends
 
 pub returns-in-Spent-clause-ran : goal.returns-in-Spent-clause-ran
-returns-in-Spent-clause-ran g c = ran_spent _ c.args.code.now c.args.machine.now c.advance.new.self _ _ _ _ c.requires.kept c.requires.under_way (no_step (sites_of c.args.code.now c.args.patterns.now) c.args.cache.now c.args.cache.now (g.K.Keeper.reads c.args.keeper.now) (g.K.Keeper.reads c.args.keeper.now) refl refl) c.in-Spent.ensures.ends
+returns-in-Spent-clause-ran g c = ran_spent _ c.args.code.now c.args.machine.now c.advance.new.self _ _ _ _ c.requires.kept c.requires.under_way (no_step c.args.code.now (sites_of c.args.code.now c.args.patterns.now) c.args.cache.now c.args.cache.now (g.K.Keeper.reads c.args.keeper.now) (g.K.Keeper.reads c.args.keeper.now) reached.Nothing refl refl refl) c.in-Spent.ensures.ends
 
 pub returns-in_ok-value-in-Store-clause-ran : goal.returns-in_ok-value-in-Store-clause-ran
 returns-in_ok-value-in-Store-clause-ran g c =

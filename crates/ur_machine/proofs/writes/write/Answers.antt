@@ -6,13 +6,13 @@ use Rattle.ur_conditions.specs.Masks.{PatternReads}
 use Rattle.ur_values.specs.Store.{FitKinds}
 use Rattle.ur_terms.specs.declared.term.Op.TheVariants as op
 use Rattle.ur_machine.proofs.Doing.{store_call_exit, store_call_spent, write_store_call, write_spent_there, made_at, change_there, change_args, change_fits}
-use Rattle.ur_machine.proofs.Reading.{no_step, are_atomic, masks_there, masks_read, write_step, write_leaves, masks_at_args}
+use Rattle.ur_machine.proofs.Reading.{no_step, none_reached, are_atomic, masks_there, masks_read, write_step, write_leaves, masks_at_args}
 use Rattle.ur_machine.proofs.writes.write.Goals as goal
 
 pub returns-in_err-charge-clause-store_call : goal.returns-in_err-charge-clause-store_call
 returns-in_err-charge-clause-store_call g c =
     store_call_exit c.from_residual.result c.in_err-charge.field-0.0 c.from_residual.ensures.1
-    (store_call_spent _ c.args.code.now (op.Write c.args.update) c.args.args _ _ _ _ _ _ _ _ _ c.requires.kept (no_step (sites_of c.args.code.now c.args.patterns.now) c.args.cache.now c.args.cache.now (g.K.Keeper.reads c.args.keeper.now) (g.K.Keeper.reads c.args.keeper.now) refl refl) c.in_err-charge.field-0.0 c.in_err-charge.ensures.0 refl refl refl c.requires.under_way
+    (store_call_spent _ c.args.code.now (op.Write c.args.update) c.args.args _ _ _ _ _ _ _ _ _ c.requires.kept (no_step c.args.code.now (sites_of c.args.code.now c.args.patterns.now) c.args.cache.now c.args.cache.now (g.K.Keeper.reads c.args.keeper.now) (g.K.Keeper.reads c.args.keeper.now) c.args.reached.now refl refl (none_reached c.args.code.now c.args.reached.now c.requires.nothing)) c.in_err-charge.field-0.0 c.in_err-charge.ensures.0 refl refl refl c.requires.under_way
     (write_spent_there c.args.code.now c.args.update c.args.args c.args.units.now c.requires.takes c.in_err-charge.ensures.1))
 
 pub unreachable-requires : goal.unreachable-requires

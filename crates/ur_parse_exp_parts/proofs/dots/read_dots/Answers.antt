@@ -7,7 +7,7 @@ pub dots-init : goal.dots-init
 dots-init c = record { moves = c.requires; dotted = dots_first }
 
 pub returns-in_err-name-clause-refused : goal.returns-in_err-name-clause-refused
-returns-in_err-name-clause-refused c = passed _ _ c.from_residual.ensures.1 c.in_err-name.ensures.refused (λ r h n. dots_refused c.dots.invariant.dotted (c.sees.ensures.yes c.dots-test.true) (h n))
+returns-in_err-name-clause-refused c = passed _ _ c.from_residual-in_err-name.ensures.1 c.in_err-name.ensures.refused (λ r h n. dots_refused c.dots.invariant.dotted (c.sees.ensures.yes c.dots-test.true) (h n))
 
 pub dots-preserved : goal.dots-preserved
 dots-preserved c = let e = c.in_ok-whole.ensures.found in let e0 = e.0 in let e1 = e.1 in let s = c.span-covered.ensures in let m = c.dots.invariant.moves in let o = moves_on (mark_moves (c.sees.ensures.yes c.dots-test.true)) c.in_ok-name.ensures.moves in

@@ -3,6 +3,8 @@ use Rattle.std.specs.Prelude.{All, IsUtf8}
 use Rattle.std.proofs.lemmas.List.Elements.{All-weaker}
 use Rattle.ur_machine.specs.Left.{Starts}
 use Rattle.ur_http.specs.Texts.{IsTextPair}
+use Rattle.ur_machine.specs.Answers.{sites_of}
+use Rattle.ur_serve.proofs.Remembered.{pages_after}
 use Rattle.ur_serve.proofs.Replying.{ready_at_begin, current_at_begin, answered_call}
 use Rattle.ur_serve.proofs.answering.answer_call.Goals as goal
 
@@ -22,7 +24,11 @@ handle-turn-requires-clause-current g c =
 pub returns-in-Ok-clause-answered : goal.returns-in-Ok-clause-answered
 returns-in-Ok-clause-answered g c =
     answered_call c.args.code.now c.args.patterns.now c.args.steps c.args.request.now c.args.close c.args.call c.requires.routed
-    c.in-Ok.machine c.handle-turn.new.machine c.args.cache.now c.handle-turn.new.cache c.finish.new.cache _ _ _ _ _ _ _ _ _ _ _ _ _ c.handle-turn.result c.finish.result
+    c.in-Ok.machine c.handle-turn.new.machine c.args.cache.now c.handle-turn.new.cache c.finish.new.cache _ _ _ _ _ _ _ _ _ _ _ _ _ c.before_asking-asks.result c.handle-turn.new.asks c.handle-turn.result c.finish.result c.renew.new.pages.list
     (subst (λ pairs. Starts c.args.code.now c.args.call pairs c.args.steps c.in-Ok.machine) c.as_slice.ensures c.in-Ok.ensures.starts) c.in-Ok.ensures.units c.requires.masks c.requires.tables c.begin.ensures.current
     (c.handle-turn.ensures.saved ∙ c.begin.ensures.within.same_saved) c.begin.ensures.reads c.handle-turn.ensures.handled c.handle-turn.ensures.undone (c.handle-turn.ensures.kept ∙ c.begin.ensures.within.same_kept ∙ c.requires.kept) c.handle-turn.ensures.capacity
     c.handle-turn.ensures.ready c.handle-turn.ensures.raised c.finish.ensures.finished c.finish.ensures.answers c.finish.ensures.masks c.finish.ensures.capacity c.finish.ensures.ended c.finish.ensures.same_schema c.finish.ensures.reads
+    (pages_after c.args.code.now (sites_of c.args.code.now c.args.patterns.now) c.args.steps c.args.request.now c.args.close c.args.call c.requires.routed
+    c.in-Ok.machine c.handle-turn.new.machine c.args.cache.now c.handle-turn.new.cache c.finish.new.cache _ _ _ _ _ _ _ _ c.before_asking-asks.result c.handle-turn.new.asks c.handle-turn.result c.finish.result c.args.pages.now.list c.renew.new.pages.list
+    (subst (λ pairs. Starts c.args.code.now c.args.call pairs c.args.steps c.in-Ok.machine) c.as_slice.ensures c.in-Ok.ensures.starts) c.begin.ensures.current (c.handle-turn.ensures.saved ∙ c.begin.ensures.within.same_saved)
+    c.before_asking-asks.ensures c.handle-turn.ensures.handled c.handle-turn.ensures.undone c.handle-turn.ensures.untold c.handle-turn.ensures.current_answers c.finish.ensures.finished c.renew.ensures c.requires.pages)

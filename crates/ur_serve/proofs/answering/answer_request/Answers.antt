@@ -1,17 +1,29 @@
-use Rattle.std.proofs.Common.{subst}
-use Rattle.ur_serve.specs.declared.ends.Routed.TheVariants as routing
-use Rattle.ur_serve.specs.Replies.{routed}
-use Rattle.ur_serve.specs.Served.{IsRoutedAs}
-use Rattle.ur_serve.proofs.Requests.{are_bare, as_away}
-use Rattle.ur_serve.proofs.Replying.{answered_away}
+use Rattle.std.proofs.Common.{sym, subst, ap, ◌∙◌}
+use Rattle.ur_cache.specs.Entries.{Cached}
+use Rattle.ur_machine.specs.Answers.{AreSavedAnswers}
+use Rattle.ur_serve.specs.Finishing.{IsAnswered}
+use Rattle.ur_serve.proofs.Remembered.{answered_recalled, recalled_keeper, unrecalled_pages}
 use Rattle.ur_serve.proofs.answering.answer_request.Goals as goal
 
-pub route_request-requires-clause-bare : goal.route_request-requires-clause-bare
-route_request-requires-clause-bare g c = are_bare c.args.code.now c.requires.fits
+pub answer_routed-requires-clause-masks : goal.answer_routed-requires-clause-masks
+answer_routed-requires-clause-masks g c = ap (λ (z : Cached). z.masks) c.in-None.ensures.0 ∙ c.requires.masks
 
-pub returns-in-Ok-status_answer-clause-answered : goal.returns-in-Ok-status_answer-clause-answered
-returns-in-Ok-status_answer-clause-answered g c =
-    answered_away c.args.code.now c.args.patterns.now c.args.steps c.args.request.now c.args.close c.args.cache.now _ _ _ _ c.in-Away.status c.in-Away.allowed.now c.in-Ok-status_answer.bytes c.is_head-head_only.result c.closes-closes.result
-    (as_away (routed c.args.code.now.handlers c.args.request.now) (routing.Away c.in-Away.status c.in-Away.allowed)
-    (subst (IsRoutedAs (routed c.args.code.now.handlers c.args.request.now)) c.in-Away.is c.in-Ok.ensures.routed))
-    c.is_head-head_only.ensures c.closes-closes.ensures c.in-Ok-status_answer.ensures c.requires.tables c.requires.kept c.requires.at_rest c.requires.saved c.requires.masks
+pub answer_routed-requires-clause-saved : goal.answer_routed-requires-clause-saved
+answer_routed-requires-clause-saved g c = subst (AreSavedAnswers c.args.code.now (g.K.Keeper.saved c.args.keeper.now)) (sym c.in-None.ensures.0) c.requires.saved
+
+pub answer_routed-requires-clause-pages : goal.answer_routed-requires-clause-pages
+answer_routed-requires-clause-pages g c =
+    unrecalled_pages c.args.code.now c.args.steps c.args.request.now c.args.close c.args.cache.now c.recall.new.cache _ c.args.pages.now.list c.recall.new.pages.list c.in-None.ensures c.requires.pages
+
+pub returns-in-Some-clause-answered : goal.returns-in-Some-clause-answered
+returns-in-Some-clause-answered g c =
+    answered_recalled c.args.code.now c.args.patterns.now c.args.steps c.args.request.now c.args.close c.args.cache.now c.recall.new.cache _ _ _ _ c.in-Some.reply c.args.pages.now.list c.recall.new.pages.list c.in-Some.ensures
+    c.requires.tables c.requires.kept c.requires.at_rest c.requires.saved c.requires.masks c.requires.pages
+
+pub returns-in-Some-clause-cause : goal.returns-in-Some-clause-cause
+returns-in-Some-clause-cause g c = λ e. absurd (recalled_keeper c.args.request.now c.args.close c.args.cache.now c.recall.new.cache c.in-Some.reply c.args.pages.now.list c.recall.new.pages.list c.in-Some.ensures e)
+
+pub returns-in-None-clause-answered : goal.returns-in-None-clause-answered
+returns-in-None-clause-answered g c =
+    subst (λ (z : Cached). IsAnswered c.args.code.now c.args.patterns.now c.args.steps c.args.request.now c.args.close z c.answer_routed.new.cache c.answer_routed.new.pages.list (g.K.Keeper.saved c.args.keeper.now) (g.K.Keeper.saved c.answer_routed.new.keeper) (g.K.Keeper.kept c.answer_routed.new.keeper)
+    (g.K.Keeper.under_way c.answer_routed.new.keeper) (g.K.Keeper.reads c.args.keeper.now) (g.K.Keeper.reads c.answer_routed.new.keeper) c.answer_routed.result) c.in-None.ensures.0 c.answer_routed.ensures.answered

@@ -1,6 +1,6 @@
 use Rattle.ur_sqltype.specs.SqltableFaults.{key_unknown}
 use Rattle.ur_sqltype.proofs.Exits.{refused-exit}
-use Rattle.ur_sqltype.proofs.Values.{stands_there}
+use Rattle.ur_sqltype.proofs.SqltableValues.{stands_there}
 use Rattle.ur_sqltype.proofs.keys.places_of.Goals as goal
 
 pub returns-in_err-place-clause-refused : goal.returns-in_err-place-clause-refused

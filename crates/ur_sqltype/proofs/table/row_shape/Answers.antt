@@ -1,6 +1,6 @@
-use Rattle.std.proofs.Common.{◌≡◌, ◌∙◌, sym, ap, subst, Some, None, map, bytes_eq}
+use Rattle.std.proofs.Common.{◌≡◌, ◌∙◌, sym, ap, subst, Some, None, map, bytes_eq, All}
 use Rattle.ur_sqltype.specs.Lists.{all_of, repeated}
-use Rattle.ur_sqltype.specs.Table.{key_of}
+use Rattle.ur_sqltype.specs.Table.{key_of, HasNoOption}
 use Rattle.ur_sqltype.specs.SqltableFaults.{column_twice, in_keys, KeysBreak}
 use Rattle.ur_sqltype.proofs.Exits.{refused-exit}
 use Rattle.ur_sqltype.proofs.Once.{distinct}
@@ -22,5 +22,6 @@ returns-clause-shape c = record {
   distinct = distinct bytes_eq (map (λ c. c.0) c.in_ok-columns.columns) (ap (λ cs. repeated bytes_eq (map (λ c. c.0) cs)) (sym c.as_slice.ensures) ∙ c.in-None.ensures);
   are_keys = ap (λ cs. all_of (key_of cs) c.args.keys.now) (sym c.as_slice-2.ensures) ∙ c.in_ok-made.ensures.places;
   once = c.in_ok-made.ensures.once;
+  plain_keys = subst (λ cs. All (HasNoOption cs) c.in_ok-made.made) c.as_slice-2.ensures c.in_ok-made.ensures.plain;
   primary = c.has_primary.ensures;
 }

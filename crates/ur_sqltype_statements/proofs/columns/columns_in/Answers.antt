@@ -1,7 +1,7 @@
 use Rattle.std.proofs.Common.{subst}
 use Rattle.std.specs.Prelude.{Contains}
 use Rattle.ur_sqltype.proofs.Exits.{refused-exit}
-use Rattle.ur_sqltype.proofs.Values.{stands_there}
+use Rattle.ur_sqltype.proofs.SqltableValues.{stands_there}
 use Rattle.ur_sqltype_statements.proofs.columns.columns_in.Goals as goal
 
 pub returns-in_err-columns-clause-refused : goal.returns-in_err-columns-clause-refused

@@ -1,5 +1,5 @@
 use Rattle.ur_sqltype.proofs.Exits.{refused-exit}
-use Rattle.ur_sqltype.proofs.Values.{stands_there}
+use Rattle.ur_sqltype.proofs.SqltableValues.{stands_there}
 use Rattle.ur_sqltype_statements.proofs.order.order_of.Goals as goal
 
 pub returns-in_err-key-clause-refused : goal.returns-in_err-key-clause-refused

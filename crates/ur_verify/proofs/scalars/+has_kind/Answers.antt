@@ -4,7 +4,7 @@ use Rattle.ur_sql.specs.declared.scalar.Scalar.{Scalar}
 use Rattle.ur_values.specs.declared.schema.ColumnKind.TheVariants as kind
 use Rattle.ur_sql.specs.Typing.{HasKind}
 use Rattle.ur_verify.specs.Scope.{scope}
-use Rattle.ur_verify.proofs.HavingKinds.{kind_Or, kind_And, kind_Add, kind_Sub, kind_Mul, kind_Not, kind_Neg, kind_of_Compare, compare_none, compare_parts, compare_made}
+use Rattle.ur_verify.proofs.HavingKinds.{kind_Or, kind_And, kind_Add, kind_Sub, kind_Mul, kind_Not, kind_Neg, kind_of_Compare, compare_none, compare_parts, compare_made, null_kind, present_none, present_some}
 use Rattle.ur_verify.proofs.Loops.{kind_apart, kind_then, kind_else, one_apart, kind_one, not_so, never, fails}
 use Rattle.ur_verify.proofs.scalars.+has_kind.Goals as goal
 
@@ -137,3 +137,16 @@ returns-else-has_kind-3 t c =
     (subst (λ (z : Scalar). HasKind (scope c.args.params.now c.args.items.now) z c.in-Some.of) (sym c.get-in-Some.ensures)
     (compare_parts (scope c.args.params.now c.args.items.now) c.args.by.now c.in-Compare.comparison c.in-Compare.a c.in-Compare.b c.get-in-Compare.result.now c.args.kind c.in-Some.of
     c.in-Compare.is c.get-in-Compare.ensures (sym c.head_kind.ensures ∙ c.in-Some.is) q).1))
+
+pub returns-in-Null : goal.returns-in-Null
+returns-in-Null t c = null_kind (scope c.args.params.now c.args.items.now) c.args.by.now c.in-Null.of c.args.kind c.in-Null.is _ c.is_null_kind.ensures
+
+pub returns-in-None-inside : goal.returns-in-None-inside
+returns-in-None-inside t c =
+    never (λ q. present_none (scope c.args.params.now c.args.items.now) c.args.by.now c.in-Present.a c.args.kind c.in-Present.is
+    (sym c.inside.ensures ∙ c.in-None-inside.is) q)
+
+pub returns-in-Some-inside : goal.returns-in-Some-inside
+returns-in-Some-inside t c =
+    present_some (scope c.args.params.now c.args.items.now) c.args.by.now c.in-Present.a c.get-in-Some-inside.result.now c.args.kind c.in-Some-inside.of
+    c.in-Present.is c.get-in-Some-inside.ensures (sym c.inside.ensures ∙ c.in-Some-inside.is) _ c.has_kind-in-Some-inside.ensures

@@ -1,6 +1,6 @@
 -- What the columns of the parts say of those of the whole.
 use Rattle.ur_sql.specs.Typing.{ReadsOnly}
-use Rattle.ur_verify.proofs.HavingKinds.{reads_Or, reads_And, reads_Compare, reads_Add, reads_Sub, reads_Mul, reads_Not, reads_Neg}
+use Rattle.ur_verify.proofs.HavingKinds.{reads_Or, reads_And, reads_Compare, reads_Add, reads_Sub, reads_Mul, reads_Not, reads_Neg, reads_Present}
 use Rattle.ur_verify.proofs.Loops.{then_of, else_of, one_of}
 use Rattle.ur_verify.proofs.scalars.+reads_only.Goals as goal
 
@@ -63,3 +63,8 @@ returns-in-Not t c = one_of (ReadsOnly c.args.group.now) _ _ _ _ c.in-Not.is (re
 
 pub returns-in-Neg : goal.returns-in-Neg
 returns-in-Neg t c = one_of (ReadsOnly c.args.group.now) _ _ _ _ c.in-Neg.is (reads_Neg c.args.group.now c.in-Neg.a) c.get-in-Neg.ensures _ c.reads_only-in-Neg.ensures
+
+pub returns-in-Present : goal.returns-in-Present
+returns-in-Present t c =
+    one_of (ReadsOnly c.args.group.now) _ _ _ _ c.in-Present.is (reads_Present c.args.group.now c.in-Present.a) c.get-in-Present.ensures _
+    c.reads_only-in-Present.ensures

@@ -10,12 +10,12 @@ use Rattle.ur_verify_operations.proofs.rows.columns_type.Goals as goal
 pub returns-in-None : goal.returns-in-None
 returns-in-None c =
     missing_at (column_type (kinds_in c.args.query.now)) c.args.columns.now c.args.columns.now c.loop-column.column-index _ c.loop-column-test.true
-    (sym c.column_field.ensures ∙ ap (option_map pair) c.in-None.is) refl
+    (sym c.in_ok-column_field.ensures ∙ ap (option_map pair) c.in-None.is) refl
 
 pub loop-column-preserved : goal.loop-column-preserved
 loop-column-preserved c =
     there_pushed (column_type (kinds_in c.args.query.now)) c.args.columns.now c.loop-column.column-index _ c.loop-column.fields c.push.new.self c.in-Some.field c.loop-column-test.true
-    c.loop-column.invariant (sym c.column_field.ensures ∙ ap (option_map pair) c.in-Some.is) c.in_ok-push-in-Some.ensures.ok
+    c.loop-column.invariant (sym c.in_ok-column_field.ensures ∙ ap (option_map pair) c.in-Some.is) c.in_ok-push-in-Some.ensures.ok
 
 pub returns : goal.returns
 returns c =

@@ -1,9 +1,10 @@
 use Rattle.std.proofs.Common.{refl, ap}
 use Rattle.ur_conditions.specs.Terms.{constant_of}
+use Rattle.ur_congruence.specs.Derives.{some_symbol}
 use Rattle.ur_invalidate.specs.Numbers.{leaf_of}
 use Rattle.ur_invalidate.proofs.Adds.{one_adds, both_adds}
 use Rattle.ur_invalidate.proofs.Parts.{both_parts, one_part}
-use Rattle.ur_invalidate.proofs.Shapes.{add_of, sub_of, mul_of, neg_of}
+use Rattle.ur_invalidate.proofs.Shapes.{add_of, sub_of, mul_of, neg_of, present_of}
 use Rattle.std.proofs.lemmas.Result.{IfOk-weaker}
 use Rattle.ur_invalidate.proofs.numbering.Numbering.+number.Goals as goal
 
@@ -66,3 +67,17 @@ returns-in-Key t c = IfOk-weaker c.leaf-in-Key.result _ _ (λ number adds. adds 
 
 pub returns-in-Arg : goal.returns-in-Arg
 returns-in-Arg t c = IfOk-weaker c.leaf-in-Arg.result _ _ (λ number adds. adds c.args.term.now (ap leaf_of c.in-Arg.is) (ap constant_of c.in-Arg.is)) c.leaf-in-Arg.ensures
+
+pub number-requires-in-Present : goal.number-requires-in-Present
+number-requires-in-Present t c =
+    let part = one_part c.args.term.now c.get-in-Present.result.now some_symbol t
+    (present_of c.args.term.now c.in-Present.a c.get-in-Present.result.now c.in-Present.is c.get-in-Present.ensures) c.requires.atoms c.decreases in
+    (part.smaller, part.atoms)
+
+pub returns-in_ok-part-in-Present : goal.returns-in_ok-part-in-Present
+returns-in_ok-part-in-Present t c =
+    IfOk-weaker c.inject.result _ _
+    (λ number adds. one_adds c.args.self.now c.number-in-Present.new.self c.inject.new.self some_symbol c.args.term.now c.get-in-Present.result.now
+    c.in_ok-part-in-Present.part.number number.number
+    (present_of c.args.term.now c.in-Present.a c.get-in-Present.result.now c.in-Present.is c.get-in-Present.ensures) c.in_ok-part-in-Present.ensures adds)
+    c.inject.ensures

@@ -1,0 +1,2 @@
+val main : unit -> transaction page
+val under : int -> transaction page
