@@ -5,7 +5,7 @@ import unittest
 import context
 from trying import Trial, ran, replayed, request
 from urweb_companion import migrate, seed, tables
-from urweb_companion.rows import First
+from urweb_companion.rows import First, Second
 from urweb_companion.store import opened
 
 
@@ -47,6 +47,7 @@ class Document(Trial):
             body = First().write(table.columns, row).hex()
             self.assertIn(f"`{body}`", self.text.replace("00000003 612662 0000000000000001 00000003 616e6e", body))
             self.assertEqual(body, "000000036126620000000000000001" + "00000003616e6e")
+            self.assertIn(f"\n\n{Second().write(table.columns, row).hex()}\n\n", self.text.replace(" ", ""))
 
 
 if __name__ == "__main__":

@@ -3,7 +3,7 @@ import unittest
 
 import context  # noqa: F401
 from urweb_companion.layout import Column, Damaged, Refused, Schema, Table, named, one, schema_of
-from urweb_companion.rows import First, number_body, number_of, split
+from urweb_companion.rows import First, Second, number_body, number_of, split
 from urweb_companion.values import MOST_BYTES, cell_of, value_of
 
 NOTE = Table("Main.note", (Column("Body", "string"), Column("Id", "int"), Column("Owner", "string")), (("Id",),), True)
@@ -29,11 +29,38 @@ class Schemas(unittest.TestCase):
                 one(["A.t", "B.t"], name, "there is no")
 
 
+    def test_which_schemas_extend_which(self) -> None:
+        kept = "table A.t B:int D:string primary B\nsequence A.s\n"
+        for text in (
+            kept, "table A.t A:int? B:int D:string primary B\nsequence A.s\n", "table A.t B:int C:bool? D:string E:string? primary B\nsequence A.s\n",
+        ):
+            self.assertTrue(schema_of(text).extends(schema_of(kept)), text)
+        for text in (
+            "table A.t B:int D:string E:int primary B\nsequence A.s\n", "table A.t B:int primary B\nsequence A.s\n", "table A.t B:int D:int primary B\nsequence A.s\n",
+            "table A.t B:int D:string? primary B\nsequence A.s\n", "table A.t B:int D:string unique B\nsequence A.s\n", "table A.u B:int D:string primary B\nsequence A.s\n",
+            "table A.t B:int D:string primary D\nsequence A.s\n", "table A.t B:int D:string primary B\n", "table A.t B:int D:string primary B\ntable A.u A:int\nsequence A.s\n",
+        ):
+            self.assertFalse(schema_of(text).extends(schema_of(kept)), text)
+
+
 class Rows(unittest.TestCase):
-    def test_the_row_of_the_document(self) -> None:
+    def test_the_rows_of_the_document(self) -> None:
         body = bytes.fromhex("00000003 612662 0000000000000001 00000003 616e6e")
         self.assertEqual(First().read(NOTE.columns, body), ("a&b", 1, "ann"))
         self.assertEqual(First().write(NOTE.columns, ("a&b", 1, "ann")), body)
+        body = bytes.fromhex("00000004 426f6479 00000003 612662 00000002 4964 0000000000000001 00000005 4f776e6572 00000003 616e6e")
+        self.assertEqual(Second().read(NOTE.columns, body), ("a&b", 1, "ann"))
+        self.assertEqual(Second().write(NOTE.columns, ("a&b", 1, "ann")), body)
+
+    def test_columns_that_are_missing(self) -> None:
+        columns = (Column("A", "int?"), Column("B", "bool"), Column("C", "string?"))
+        a, b, c = (bytes.fromhex(it) for it in ("00000001 41 01 0000000000000005", "00000001 42 01", "00000001 43 00"))
+        self.assertEqual(Second().write(columns, (5, True, None)), a + b + c)
+        for body, row in ((a + b + c, (5, True, None)), (b + c, (None, True, None)), (a + b, (5, True, None)), (b, (None, True, None))):
+            self.assertEqual(Second().read(columns, body), row)
+        for wrong in (a + c, b + a, a + a + b, a + b + c + c, c + b, a + b[:-1], b + c + bytes.fromhex("00000001 44 00"), b"", a[:3]):
+            with self.assertRaises(Damaged, msg=wrong):
+                Second().read(columns, wrong)
 
     def test_ends_of_kinds(self) -> None:
         columns = (Column("A", "int"), Column("B", "bool"), Column("C", "string"))
@@ -70,7 +97,9 @@ class Rows(unittest.TestCase):
         self.assertEqual(number_body(1).hex(), "0000000000000001")
         with self.assertRaises(Damaged):
             number_of(b"\1")
-        self.assertEqual(split(TEXT)[1], TEXT)
+        for text, layout in ((TEXT, First), ("layout 2\n" + TEXT, Second)):
+            self.assertIsInstance(split(text)[0], layout)
+            self.assertEqual(split(text)[1], TEXT)
         with self.assertRaises(Damaged):
             split("layout 7\n" + TEXT)
 

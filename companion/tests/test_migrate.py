@@ -62,6 +62,20 @@ class Migrations(Trial):
         self.add_columns()
         self.assertEqual((self.migrated().status, self.rows()), (0, []))
 
+    def test_columns_that_may_be_empty_are_added_by_the_program(self) -> None:
+        self.fill("one")
+        self.change("Body : string} PRIMARY", "Body : string, Tag : option string} PRIMARY")
+        self.change("(Id, Owner, Body)", "(Id, Owner, Body, Tag)")
+        self.change("{[r.Body]})", "{[r.Body]}, NULL)")
+        found = self.migrated()
+        self.assertEqual((found.status, found.err), (0, ""))
+        self.assertIn("  Tag : option string is new: empty\n", found.out)
+        self.assertIn(f"the program takes {self.store} for the project as well, and does the same in it by itself\n", found.out)
+        self.assertEqual(self.rows(), [("one", 1, "ann", None)])
+        attach(str(self.notes), self.store)
+        with opened(self.store) as store:
+            self.assertEqual([row for table in store.schema.tables for _, row in store.rows(table)], [("one", 1, "ann", None)])
+
     def test_renamed_and_dropped_columns(self) -> None:
         self.fill("one")
         text = self.source.read_text()

@@ -115,7 +115,7 @@ class Judges(Trial):
             with project_of(schema_of(text)) as project:
                 attach(project, store)
             with opened(store) as found:
-                self.assertEqual(found.text, text)
+                self.assertEqual(found.text, "layout 2\n" + text)
 
     def test_the_guest_book_is_judged_by_its_schema(self) -> None:
         for at, project in enumerate(steps_of_the_guest_book()):

@@ -75,10 +75,11 @@ class Tables(Trial):
 
     def test_damaged_files(self) -> None:
         for statement, said in (
-            ("UPDATE ur_row SET Body = substr(Body, 1, 5) WHERE Tab = 2", "Main.note, row 0: the row ends within Body"),
+            ("UPDATE ur_row SET Body = substr(Body, 1, 10) WHERE Tab = 2", "Main.note, row 0: the row ends within Body"),
+            ("UPDATE ur_row SET Body = substr(Body, 1, 5) WHERE Tab = 2", "Main.note, row 0: the row lacks Body"),
             ("UPDATE ur_row SET Body = cast(Body || x'00' AS BLOB) WHERE Tab = 2", "1 bytes stand behind the last column"),
             ("UPDATE ur_row SET Body = x'ff' WHERE Tab = 0", "the schema's text is not UTF-8"),
-            ("UPDATE ur_row SET Body = cast('layout 2' || char(10) || Body AS BLOB) WHERE Tab = 0", "'layout 2'"),
+            ("UPDATE ur_row SET Body = cast('layout 7' || char(10) || Body AS BLOB) WHERE Tab = 0", "'layout 7'"),
             ("UPDATE ur_row SET Body = 'x' WHERE Tab = 2", "a body is of another type than BLOB"),
             ("DELETE FROM ur_row WHERE Tab = 1", "the sequence Main.ids has no number"),
         ):

@@ -65,6 +65,12 @@ class Table:
         names = [it.name for it in self.columns]
         return tuple(names.index(name) for name in key)
 
+    def extends(self, kept: "Table") -> bool:
+        """Whether the program takes the kept table as this one: columns that may be empty are added, and nothing else is another."""
+        same = (self.name, self.keys, self.has_primary) == (kept.name, kept.keys, kept.has_primary)
+        new = [it for it in self.columns if it not in kept.columns]
+        return same and len(self.columns) - len(new) == len(kept.columns) and all(it.is_optional and kept.column(it.name) is None for it in new)
+
     def line(self) -> str:
         words = ["table", self.name, *(f"{it.name}:{it.kind}" for it in self.columns)]
         for at, key in enumerate(self.keys):
@@ -78,6 +84,11 @@ class Schema:
 
     tables: tuple[Table, ...]
     sequences: tuple[str, ...]
+
+    def extends(self, kept: "Schema") -> bool:
+        """Whether the program takes a file of the kept schema for this one."""
+        tables = len(self.tables) == len(kept.tables) and all(new.extends(old) for new, old in zip(self.tables, kept.tables, strict=True))
+        return tables and self.sequences == kept.sequences
 
     def text(self) -> str:
         return "".join(f"{it}\n" for it in [*(table.line() for table in self.tables), *(f"sequence {name}" for name in self.sequences)])

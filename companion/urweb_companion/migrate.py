@@ -14,7 +14,8 @@ from urweb_companion.store import Store, opened, placed, settle, writing
 from urweb_companion.values import Value, text_of
 
 DESCRIPTION = """Makes a file of tables for a project whose tables have changed. It says what is new, dropped and renamed, and asks for each value that is
-missing, on a terminal; nothing is written unless all is known. The old file stays as it is."""
+missing, on a terminal; nothing is written unless all is known. The old file stays as it is. Columns that may be empty need none of this: the program adds
+them itself when it takes the old file, and migrate says so."""
 
 
 def main(words: Sequence[str]) -> int:
@@ -42,10 +43,13 @@ def _parser() -> argparse.ArgumentParser:
 
 def _migrate(project: str, old: Path, new: Path, words: Sequence[str]) -> None:
     with placed(new) as draft, opened(old) as store:
-        plan = plan_of(store, schema_of_project(project), words)
+        schema = schema_of_project(project)
+        plan = plan_of(store, schema, words)
         _complete(plan)
         for line in report(plan):
             print(line)
+        if schema.extends(store.schema) and not words:
+            print(f"the program takes {old} for the project as well, and does the same in it by itself")
         attach(project, draft)
         _write(plan, store, new, draft)
         attach(project, draft)

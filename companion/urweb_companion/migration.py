@@ -27,7 +27,8 @@ Origin = Given | Taken
 
 @dataclass
 class TablePlan:
-    """Where the rows of a table come from: the old table, and for each column its origin, which is missing where it is not known."""
+    """Where the rows of a table come from: the old table, and for each column its origin, which is missing where it is not known. A new
+    column that may be empty is so, unless a word says otherwise."""
 
     table: Table
     old: Table | None
@@ -144,6 +145,7 @@ def _table_plan(store: Store, table: Table, old_name: str) -> TablePlan:
     if old is not None:
         plan.count = store.size(old)[0]
         plan.origins = {it.name: Taken(it) for it in table.columns if old.column(it.name) == it}
+        plan.origins |= {it.name: Given(None) for it in table.columns if it.is_optional and old.column(it.name) is None}
     return plan
 
 

@@ -22,7 +22,7 @@ class Layout(Protocol):
 
 
 class First:
-    """The columns' values one after the other, in the order of the columns' names."""
+    """The first layout: the columns' values one after the other, in the order of the columns' names."""
 
     def read(self, columns: Columns, body: bytes) -> Row:
         at, values = 0, []
@@ -37,12 +37,43 @@ class First:
         return b"".join(_column_body(*it) for it in zip(columns, row, strict=True))
 
 
+class Second:
+    """The second layout: each column's name and then its value, in the same order. A column that is missing is empty, where it may be so."""
+
+    def read(self, columns: Columns, body: bytes) -> Row:
+        at, values = 0, []
+        for column in columns:
+            name = _name_body(column)
+            if body.startswith(name, at):
+                value, at = _read_value(column, body, at + len(name))
+            elif column.is_optional:
+                value = None
+            else:
+                raise Damaged(f"the row lacks {column.name}, or has it in another place")
+            values.append(value)
+        if at != len(body):
+            raise Damaged(f"{len(body) - at} bytes stand behind the last column")
+        return tuple(values)
+
+    def write(self, columns: Columns, row: Row) -> bytes:
+        return b"".join(_name_body(column) + _column_body(column, value) for column, value in zip(columns, row, strict=True))
+
+
+SECOND_LINE = "layout 2"
+
+
 def split(text: str) -> tuple[Layout, str]:
     """Returns the layout of a file and the text of its schema, from the text that stands in it."""
     first, end, rest = text.partition("\n")
+    if first == SECOND_LINE and end:
+        return Second(), rest
     if first.startswith("layout ") and end:
         raise Damaged(f"the file is of {first!r}, which this companion does not know")
     return First(), text
+
+
+def _name_body(column: Column) -> bytes:
+    return _value_body(column.name)
 
 
 def _read_value(column: Column, body: bytes, at: int) -> tuple[Value, int]:

@@ -100,22 +100,28 @@ class Small(unittest.TestCase):
     """Bodies, ports, answers and cases."""
 
     def test_bodies(self) -> None:
-        body = tables.body_of(("a&b", 1, "ann", True))
-        self.assertEqual(body.hex(), "00000003612662" "0000000000000001" "00000003616e6e" "01")
-        self.assertEqual(tables.values_of(body, ("string", "int", "string", "bool")), [b"a&b", b"\0" * 7 + b"\1", b"ann", b"\1"])
-        for kinds in (("string", "int", "string"), ("string", "int", "string", "bool", "bool")):
+        columns = (*tables.NOTE, ("T", "bool"))
+        values = [b"a&b", b"\0" * 7 + b"\1", b"ann", b"\1"]
+        body = tables.body_of(columns, ("a&b", 1, "ann", True))
+        self.assertEqual(body.hex(), "00000004426f6479" "00000003612662" "000000024964" "0000000000000001" "000000054f776e6572" "00000003616e6e" "0000000154" "01")
+        self.assertEqual(tables.values_of(body, columns), values)
+        self.assertEqual(tables.first_values_of(tables.first_body(("a&b", 1, "ann", True)), columns), values)
+        for other in (tables.NOTE, (*columns, ("U", "bool")), columns[::-1]):
             with self.assertRaises(ValueError):
-                tables.values_of(body, kinds)
+                tables.values_of(body, other)
 
     def test_bodies_of_options(self) -> None:
-        kinds = ("int?", "string?")
-        self.assertEqual(tables.columns_of(b"\0" b"\1" b"\0\0\0\2ab", kinds), [None, b"ab"])
-        self.assertEqual(tables.columns_of(b"\1" + b"\0" * 7 + b"\5" b"\0", kinds), [b"\0" * 7 + b"\5", None])
-        for body in (b"\0", b"\2\0", b"\0\0\0", b"\1\0\0"):
+        columns = (("A", "int?"), ("B", "string?"))
+        a, b = b"\0\0\0\1A", b"\0\0\0\1B"
+        self.assertEqual(tables.columns_of(a + b"\0" + b + b"\1" b"\0\0\0\2ab", columns), [None, b"ab"])
+        self.assertEqual(tables.columns_of(a + b"\1" + b"\0" * 7 + b"\5" + b + b"\0", columns), [b"\0" * 7 + b"\5", None])
+        self.assertEqual(tables.columns_of(b + b"\0", columns), [None, None])
+        self.assertEqual(tables.columns_of(b"", columns), [None, None])
+        for body in (b"\0", a + b"\2" + b + b"\0", a + b"\0" + b + b"\0\0", a + b"\1\0", b + b"\0" + a + b"\0"):
             with self.assertRaises(ValueError):
-                tables.columns_of(body, kinds)
+                tables.columns_of(body, columns)
         with self.assertRaises(ValueError):
-            tables.values_of(b"\0\0", kinds)
+            tables.values_of(a + b"\0" + b + b"\0", columns)
 
     def test_ports_differ(self) -> None:
         self.assertEqual(len({served.free_port() for _ in range(20)}), 20)

@@ -13,7 +13,7 @@ from typing import Any
 TOOLS = str(Path(__file__).resolve().parents[1])
 sys.path.insert(0, TOOLS)
 from lib import tables
-from tries.refusing.judge import SCHEMA, Left, Rows, Run, file_at, fixed, judge, right
+from tries.refusing.judge import ITEM, SCHEMA, Left, Rows, Run, file_at, fixed, judge, right
 from tries.refusing.runs import HELLO, KINDS, LIST, Lab, post
 
 LINE = b"serving on 127.0.0.1:80\n"
@@ -158,12 +158,12 @@ def write(path: str, text: str | None) -> Rows:
     with contextlib.closing(sqlite3.connect(path)) as database, database:
         database.execute(TABLE)
         rows = database.execute("SELECT Body FROM ur_row WHERE Tab = ? ORDER BY Num", (tables.FIRST_TABLE,)).fetchall()
-        texts = [tables.values_of(body, ("string", "int"))[0].decode() for (body,) in rows]
+        texts = [tables.values_of(body, ITEM)[0].decode() for (body,) in rows]
         if text is not None:
-            database.execute(PUT, (tables.FIRST_TABLE, len(texts), tables.body_of((text, len(texts) + 1))))
+            database.execute(PUT, (tables.FIRST_TABLE, len(texts), tables.body_of(ITEM, (text, len(texts) + 1))))
             texts.append(text)
         database.execute(PUT, (tables.SCHEMA, 0, SCHEMA))
-        database.execute(PUT, (tables.SEQUENCES, 0, tables.body_of((len(texts) + 1,))))
+        database.execute(PUT, (tables.SEQUENCES, 0, tables.value_as_bytes(len(texts) + 1)))
     return tuple(texts)
 
 

@@ -1,6 +1,6 @@
 //! Queries over large tables: a join on equal columns, groups, and an order.
 use std::alloc::Global;
-use ur_base::{Boxed, List, Memory, Name};
+use ur_base::{Boxed, List, Memory, Name, Shared};
 use ur_sql::{Aggregate, ColumnAt, Comparison, Field, OrderKey, Query, Scalar, answer};
 use ur_values::{Numbered, Row, Value};
 
@@ -101,7 +101,7 @@ fn table(alloc: Global, rows: u32) -> Result<List<Numbered>, Memory> {
     let mut table = List::new(alloc);
     for i in 0..rows {
         let mixed = u64::from(i).wrapping_mul(7919) % u64::from(rows);
-        let row = row(alloc, mixed)?;
+        let row = Shared::new(alloc, row(alloc, mixed)?)?;
         let number = u64::from(i);
         table.push(Numbered { number, row })?;
     }

@@ -1,7 +1,7 @@
 //! Changes of a large table, planned: all rows take new keys, and a new row is looked up in two keys.
 use std::alloc::Global;
 use std::fmt;
-use ur_base::{List, Memory};
+use ur_base::{List, Memory, Shared};
 use ur_sql::{Action, Planned, Scalar, plan_action};
 use ur_values::{Numbered, Row, Value};
 
@@ -93,7 +93,7 @@ fn operand(new: bool, parameter: u32, column: u32) -> Scalar {
 fn rows(alloc: Global, count: u32) -> Result<List<Numbered>, Memory> {
     let mut rows = List::new(alloc);
     for n in 0..count {
-        let row = pair(alloc, cell(n))?;
+        let row = Shared::new(alloc, pair(alloc, cell(n))?)?;
         let number = u64::from(n);
         rows.push(Numbered { number, row })?;
     }

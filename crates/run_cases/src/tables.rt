@@ -88,7 +88,7 @@ fn put_table(table: &TableShape, rows: &[Numbered], p: &mut Printer) {
 fn put_rows(rows: &[Numbered], p: &mut Printer) {
     for row in rows {
         p.word(b"(");
-        for value in row.row.as_slice() {
+        for value in row.row.get().as_slice() {
             put_value(value, p);
         }
         p.put(b")");

@@ -1,7 +1,7 @@
 //! Tables with their rows, and the values of antiquotes, as cases write them.
 use std::alloc::Global;
 use std::mem;
-use ur_base::{Boxed, List, Memory, Text};
+use ur_base::{Boxed, List, Memory, Shared, Text};
 use ur_rows::{Normal, NormalType};
 use ur_values::{ColumnKind, Numbered, Row, Schema, TableShape, Value};
 
@@ -244,7 +244,7 @@ impl World {
     }
 
     fn take_row(&mut self, words: &str) -> Result<(), Memory> {
-        let row = row(self.alloc, words)?;
+        let row = Shared::new(self.alloc, row(self.alloc, words)?)?;
         let number = self.last.len() as u64;
         self.last.push(Numbered { number, row })
     }

@@ -1,4 +1,4 @@
-//! What every crate stands on: lists and boxes that contracts see as what they hold, texts, refusals, names, reserved
+//! What every crate stands on: lists, boxes and shared values that contracts see as what they hold, texts, refusals, names, reserved
 //! room and counts.
 #![tactic(auto)]
 
@@ -9,6 +9,7 @@ mod list;
 mod names;
 mod refusal;
 mod room;
+mod shared;
 mod steps;
 
 pub use boxed::Boxed;
@@ -17,4 +18,5 @@ pub use list::List;
 pub use names::{Name, Names};
 pub use refusal::{Bytes, Memory, Refusal, Span, Stop, Text};
 pub use room::Room;
+pub use shared::Shared;
 pub use steps::Steps;

@@ -3,7 +3,7 @@ use crate::held::{Held, any_matches, drop_last, drop_masked, get_to_front, is_be
 use lru::LruCache;
 use std::alloc::Global;
 use std::marker::Model;
-use ur_base::{List, Memory, Room};
+use ur_base::{List, Memory, Room, Shared};
 use ur_cacheindex::{Index, Mask, Node, NodeId};
 use ur_values::{Atom, Value};
 
@@ -69,8 +69,8 @@ impl Cache {
         })
     }
 
-    /// The rows of an entry, which goes to the front; none where a mask matches. Takes no memory.
-    pub fn lookup(&mut self, site: u32, key: &[Atom]) -> Option<&List<Value>>
+    /// The rows of an entry, which goes to the front and may share them; none where a mask matches. Takes no memory.
+    pub fn lookup(&mut self, site: u32, key: &[Atom]) -> Option<&Shared<List<Value>>>
         ensures* front { sem 𝓛 (ends_as self.entry (looked_up self.old site (atom_values key.now))) }
         ensures rows { option_copied result ≡ option_map (λ e. e.rows) (hit self.old site (atom_values key.now)) }
     {
@@ -94,7 +94,12 @@ impl Cache {
     }
 
     /// Keeps an answer at the front, and drops the last entry where there are more than the capacity.
-    pub fn put(&mut self, site: u32, key: List<Atom>, rows: List<Value>) -> Result<(), Memory>
+    pub fn put(
+        &mut self,
+        site: u32,
+        key: List<Atom>,
+        rows: Shared<List<Value>>,
+    ) -> Result<(), Memory>
         requires unmasked { is_masked self.old.masks site (atom_values key) ≡ false }
         requires absent { IsNone (entry_at site (atom_values key) self.old.entries) }
         requires size { entry_size (record { site = site; key = atom_values key; rows = rows }) ≤ most_size }

@@ -13,19 +13,19 @@ ghost use Rattle.ur_cache.specs.Held.{IsHeld, PutsIn, DropsLast, without_all, Ke
 use lru::LruCache;
 use std::alloc::Allocator;
 use std::hash::{BuildHasher, Hash};
-use ur_base::{List, Memory, Room, Steps};
+use ur_base::{List, Memory, Room, Shared, Steps};
 use ur_cacheindex::{Index, Mask, Node, NodeId};
 use ur_values::{Atom, Value};
 
 /// Rows by the number of a node, the most recent first.
-pub(crate) type Held = LruCache<usize, List<Value>>;
+pub(crate) type Held = LruCache<usize, Shared<List<Value>>>;
 
 /// Puts a node in with its rows.
 pub(crate) fn put_in(
     held: &mut Held,
     index: &mut Index,
     node: Node,
-    rows: List<Value>,
+    rows: Shared<List<Value>>,
 ) -> Result<(), Memory>
     requires { length held.old.entries + 1 < held.old.cap }
     ensures ok { OnOk result (PutsIn node rows index.old held.old.entries index.new held.new.entries) }
@@ -79,7 +79,7 @@ pub(crate) fn get_to_front<'a, K: Eq + Hash, V, S: BuildHasher, A: Allocator>(
 }
 
 /// Takes the last rows out, where there are any. Takes no memory.
-fn pop_last(held: &mut Held) -> Option<(usize, List<Value>)>
+fn pop_last(held: &mut Held) -> Option<(usize, Shared<List<Value>>)>
     ensures rows { result ≡ last_entry held.old.entries }
     ensures left { held.new.entries ≡ take (length held.old.entries - 1) held.old.entries }
     ensures cap { held.new.cap ≡ held.old.cap }

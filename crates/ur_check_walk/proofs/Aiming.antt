@@ -1,5 +1,6 @@
 -- The targets of links and buttons.
 use Rattle.std.proofs.Common.{arith, ◌+◌, ◌*◌, ◌≡◌, ◌∙◌, refl, ap, ap₂, sym, subst, true, false, Bool, ℕ, suc, ◌≤◌, ◌<◌, List, [], ◌∷◌, length, map, Option, Some, None, Err}
+use Rattle.std.specs.Borrow.{Bor}
 use Rattle.std.specs.Prelude.{option_map, option_and_then, slice_get}
 use Rattle.std.proofs.lemmas.List.{length-map}
 use mathlib.Core.Former.{Count}
@@ -29,8 +30,9 @@ use Rattle.ur_check_rules.specs.Views.{sites_in, args_with}
 use Rattle.ur_check_forms.specs.declared.targets.Target.{Target}
 use Rattle.ur_check_walk.specs.declared.targets.Aim.{Aim}
 use Rattle.ur_check_walk.specs.declared.targets.Aim.TheVariants as aim
-use Rattle.ur_check_walk.specs.Applying.{in_argument, many, few, ArgsHaveFault, GivesArgs, TellsArgs}
+use Rattle.ur_check_walk.specs.Applying.{forms_in, Unapplied, no_argument, an_argument, in_argument, many, few, ArgsHaveFault, GivesArgs, TellsArgs}
 use Rattle.ur_check_walk.specs.Aiming.{Aims, BreaksAim, types_for, AsksFor, BreaksTarget, breaks_aim, given_more, given_less, IsTarget, TargetFault, in_target, breaks_target, GivesTarget, TellsTarget}
+use Rattle.ur_check_walk.proofs.Applying.{forms-length}
 use Rattle.ur_check_walk.proofs.Forms.{app-made}
 use Rattle.ur_check_walk.proofs.Steps.{stands-there}
 
@@ -51,28 +53,13 @@ not-many w xs ts h g =
     let same : length (walks w xs) ≡ length xs = length-map xs (λ x. typed w x) in
     omega (arith, h, longer, same)
 
--- what is left of both is as much longer than the other as the whole is
-abbrev pub AsMany : List ExpForm → List NormalType → List ExpForm → List NormalType → Type 0
-AsMany xs ts ys us = length xs + length us ≡ length ys + length ts
+pub enough : (given : List (Bor Exp)) (ts : List NormalType) → length given ≤ length ts → length (forms_in given) ≤ length ts
+enough given ts h = let e = forms-length given in omega (arith, e, h)
 
-pub as-many-next : (xs : List ExpForm) (ts : List NormalType) (y : ExpForm) (ys zs : List ExpForm) (u : NormalType) (us vs : List NormalType) → zs ≡ y ∷ ys → vs ≡ u ∷ us → AsMany xs ts zs vs → AsMany xs ts ys us
-as-many-next xs ts y ys zs u us vs ez ev h =
-    let lz : length zs ≡ suc (length ys) = ap length ez in
-    let lv : length vs ≡ suc (length us) = ap length ev in
-    omega (arith, lz, lv, h)
-
-pub enough : (xs : List ExpForm) (ts : List NormalType) (ys : List ExpForm) (us : List NormalType) → ys ≡ [] → AsMany xs ts ys us → length xs ≤ length ts
-enough xs ts ys us ey h =
-    let ly : length ys ≡ 0 = ap length ey in
-    omega (arith, ly, h)
-
-pub too-many-told : (xs : List ExpForm) (ts : List NormalType) (y : ExpForm) (ys zs : List ExpForm) (us : List NormalType) (s : Stop) → zs ≡ y ∷ ys → us ≡ [] → AsMany xs ts zs us → ((names : List (List ℕ)) → StopIs names too_many_given s) →
-    IfRefused {A = Unit {0}} (Err s) (λ r. (length ts < length xs) × ((names : List (List ℕ)) → TellsFault names r too_many_given))
-too-many-told xs ts y ys zs us (stop.Refused r) ez eu h t =
-    let lz : length zs ≡ suc (length ys) = ap length ez in
-    let lu : length us ≡ 0 = ap length eu in
-    (omega (arith, lz, lu, h), t)
-too-many-told xs ts y ys zs us stop.Memory ez eu h t = tt
+pub too-many-told : (given : List (Bor Exp)) (ts : List NormalType) (s : Stop) → length ts < length given → ((names : List (List ℕ)) → StopIs names too_many_given s) →
+    IfRefused {A = Unit {0}} (Err s) (λ r. (length ts < length (forms_in given)) × ((names : List (List ℕ)) → TellsFault names r too_many_given))
+too-many-told given ts (stop.Refused r) h t = let e = forms-length given in (omega (arith, e, h), t)
+too-many-told given ts stop.Memory h t = tt
 
 -- ---- what is called
 
@@ -139,3 +126,20 @@ pub target-further-tells : (a b : Around) (before : HeldSites) (how : Aim) (x : 
 target-further-tells a b before how x f g xs r ew es ex h w s st =
     subst (λ z. TargetFault z.now.datatype_names w s how x xs (sites_in before) r) ew
     (subst (λ z. TargetFault b.world.now.datatype_names w s how z xs (sites_in before) r) (sym (ex ∙ app-made f g)) (further-told f g (h w s (stands-there a b w s ew es st))))
+
+-- ---- along all applications
+
+pub unapplied-aims : (a : Around) (before after : HeldSites) (how : Aim) (t : Target × List Resolved) {x y : ExpForm} {xs ys : List ExpForm} → Unapplied x xs y ys → GivesTarget a before how y ys t after → GivesTarget a before how x xs t after
+unapplied-aims a before after how t no_argument h = h
+unapplied-aims a before after how t (an_argument f g {xs = xs} u) h = target-further-gives a a before after how (e.App f g) f g xs t refl refl refl (unapplied-aims a before after how t u h)
+
+pub unapplied-misses : (a : Around) (before : HeldSites) (how : Aim) (r : Refusal) {x y : ExpForm} {xs ys : List ExpForm} → Unapplied x xs y ys → TellsTarget a before how y ys r → TellsTarget a before how x xs r
+unapplied-misses a before how r no_argument h = h
+unapplied-misses a before how r (an_argument f g {xs = xs} u) h = target-further-tells a a before how (e.App f g) f g xs r refl refl refl (unapplied-misses a before how r u h)
+
+-- where none stand behind the whole
+pub whole-aims : (a : Around) (before after : HeldSites) (how : Aim) (t : Target × List Resolved) {x y : ExpForm} {xs ys : List ExpForm} → xs ≡ [] → Unapplied x xs y ys → GivesTarget a before how y ys t after → GivesTarget a before how x [] t after
+whole-aims a before after how t {x = x} ex u h = subst (λ z. GivesTarget a before how x z t after) ex (unapplied-aims a before after how t u h)
+
+pub whole-misses : (a : Around) (before : HeldSites) (how : Aim) (r : Refusal) {x y : ExpForm} {xs ys : List ExpForm} → xs ≡ [] → Unapplied x xs y ys → TellsTarget a before how y ys r → TellsTarget a before how x [] r
+whole-misses a before how r {x = x} ex u h = subst (λ z. TellsTarget a before how x z r) ex (unapplied-misses a before how r u h)

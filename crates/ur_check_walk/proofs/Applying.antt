@@ -1,5 +1,5 @@
 -- Applications: arguments one by one, and what is applied.
-use Rattle.std.proofs.Common.{arith, ◌+◌, ◌*◌, ◌≡◌, ◌≢◌, ◌∙◌, refl, ap, ap₂, sym, subst, true, false, ℕ, ◌≤◌, ◌<◌, nat_le, ◌&&◌, List, [], ◌∷◌, ◌++◌, Option, Some, None, map, option_map, Err}
+use Rattle.std.proofs.Common.{arith, ◌+◌, ◌*◌, ◌≡◌, ◌≢◌, ◌∙◌, refl, ap, ap₂, sym, subst, true, false, ℕ, suc, ◌≤◌, ◌<◌, nat_le, ◌&&◌, List, [], ◌∷◌, ◌++◌, Option, Some, None, map, option_map, Err, length}
 use Rattle.std.specs.Borrow.{Bor}
 use Rattle.std.specs.Prelude.{slice_get, option_and_then, codes}
 use Rattle.std.proofs.lemmas.Option.{slice_get-map}
@@ -51,18 +51,47 @@ use Rattle.ur_check_rules.specs.declared.out.Out.{Out as HeldOut}
 use Rattle.ur_check_rules.specs.declared.out.Sites.{Sites as HeldSites}
 use Rattle.ur_check_rules.specs.Views.{sites_in, out_in, out_with, args_with}
 use Rattle.ur_check_rules.specs.Callees.{is_tag_form, IsApplied, IsCallee, BreaksCallee, large_given, bad_head}
-use Rattle.ur_check_walk.specs.declared.applied.Args.{Args}
-use Rattle.ur_check_walk.specs.declared.applied.Args.TheVariants as args
-use Rattle.ur_check_walk.specs.Promises.{GivesTyped, Tells}
-use Rattle.ur_check_walk.specs.Applying.{forms_in, ArgsHaveFault, in_argument, many, few, GivesArgs, TellsArgs, HeadBreaks, head_breaks, BreaksStatic, TellsMany, CallHasFault, in_call, breaks_call, SpineHasFault, in_spine, breaks_spine, SpineGives, SpineTells, CallTells}
+use Rattle.ur_check_walk.specs.Promises.{Gives, GivesTyped, Tells}
+use Rattle.ur_check_walk.specs.Applying.{forms_onto, forms_in, Unapplied, no_argument, an_argument, ArgsHaveFault, in_argument, many, few, GivesArgs, TellsArgs, HeadBreaks, head_breaks, BreaksStatic, TellsMany, CallHasFault, in_call, breaks_call, SpineHasFault, in_spine, breaks_spine, SpineGives, SpineTells, CallTells}
 use Rattle.ur_check_walk.proofs.Forms.{app-made}
 use Rattle.ur_check_walk.proofs.Passing.{given-breaks}
 use Rattle.ur_check_walk.proofs.Steps.{part, rule, stands-there}
 
 -- ---- the list of arguments
 
-pub more-forms : (given : Args) (x : _) (rest : _) → given ≡ args.More x rest → forms_in given ≡ x.now.form ∷ forms_in rest.now
-more-forms given x rest h = ap forms_in h
+forms-onto-push : (xs : List (Bor Exp)) (x : Bor Exp) (behind : List ExpForm) → forms_onto (xs ++ x ∷ []) behind ≡ x.now.form ∷ forms_onto xs behind
+forms-onto-push [] x behind = refl
+forms-onto-push (y ∷ ys) x behind = forms-onto-push ys x (y.now.form ∷ behind)
+
+pub forms-push : (xs : List (Bor Exp)) (x : Bor Exp) → forms_in (xs ++ x ∷ []) ≡ x.now.form ∷ forms_in xs
+forms-push xs x = forms-onto-push xs x []
+
+pub more-forms : (given rest : List (Bor Exp)) (x : Bor Exp) → given ≡ rest ++ x ∷ [] → forms_in given ≡ x.now.form ∷ forms_in rest
+more-forms given rest x h = ap forms_in h ∙ forms-push rest x
+
+pub no-forms : (given : List (Bor Exp)) → given ≡ [] → forms_in given ≡ []
+no-forms given h = ap forms_in h
+
+forms-onto-length : (xs : List (Bor Exp)) (behind : List ExpForm) → length (forms_onto xs behind) ≡ length xs + length behind
+forms-onto-length [] behind = omega arith
+forms-onto-length (x ∷ xs) behind = forms-onto-length xs (x.now.form ∷ behind) ∙ one (length xs) (length behind)
+  where
+    one : (a b : ℕ) → a + suc b ≡ suc a + b
+    one a b = omega arith
+
+pub forms-length : (xs : List (Bor Exp)) → length (forms_in xs) ≡ length xs
+forms-length xs = forms-onto-length xs [] ∙ none (length xs)
+  where
+    none : (a : ℕ) → a + 0 ≡ a
+    none a = omega arith
+
+-- what is applied in what is left, with the arguments so far behind it, is applied in the whole
+abbrev pub Unapplies : ExpForm → List ExpForm → ExpForm → List ExpForm → Type 0
+Unapplies x xs z zs = (y : ExpForm) (ys : List ExpForm) → Unapplied z zs y ys → Unapplied x xs y ys
+
+pub unapplies-more : (x : ExpForm) (xs zs : List ExpForm) (z : ExpForm) (f a : Exp) (more : List ExpForm) → Unapplies x xs z zs → z ≡ e.App f a → more ≡ a.form ∷ zs → Unapplies x xs f.form more
+unapplies-more x xs zs z f a more h ez em y ys u =
+    h y ys (subst (λ k. Unapplied k zs y ys) (sym ez) (an_argument f a (subst (λ k. Unapplied f.form k y ys) em u)))
 
 -- What is found of the arguments that are left is so of all, behind those so far.
 pub record Leads (w : World) (s : Scope) (xs : List ExpForm) (ts : List NormalType) (before : Sites) (ys : List ExpForm) (us : List NormalType) (st : Sites) (done : List Resolved) : Type 0 where
@@ -265,10 +294,6 @@ few-told a xs ts before zs u us vs st done (stop.Refused r) ez ev leads t = λ w
     few (there.too_few_left no_argument_left) (t a.world.now.datatype_names)
 few-told a xs ts before zs u us vs st done stop.Memory ez ev leads t = tt
 
-pub no-forms : (given : Args) → ((x : _) (rest : _) → given ≡ args.More x rest → ⊥) → forms_in given ≡ []
-no-forms args.Nothing h = refl
-no-forms (args.More' x _ rest) h = absurd (h x _ refl)
-
 -- ---- from the code to the definitions
 
 pub further-gives : (a b : Around) (before after : HeldSites) (x : ExpForm) (f g : Exp) (xs : List ExpForm) (o : HeldOut) → b.world ≡ a.world → b.scope ≡ a.scope → x ≡ e.App f g → SpineGives b before f.form (g.form ∷ xs) o after → SpineGives a before x xs o after
@@ -280,10 +305,25 @@ further-told a b before x f g xs r ew es ex h w s st =
     subst (λ z. SpineHasFault z.now.datatype_names w s (sites_in before) x xs r) ew
     (subst (λ z. SpineHasFault b.world.now.datatype_names w s (sites_in before) z xs r) (sym ex) (further-tells f g (h w s (stands-there a b w s ew es st))))
 
-pub spine-below : (l k t : ℕ) → l ≡ k + 2 → 60 * l + 5 ≡ t → 60 * k + 5 < t
-spine-below l k t e d = omega (arith, e, d)
+-- the same along all applications
+pub unapplied-gives : (a : Around) (before after : HeldSites) (o : HeldOut) {x y : ExpForm} {xs ys : List ExpForm} → Unapplied x xs y ys → SpineGives a before y ys o after → SpineGives a before x xs o after
+unapplied-gives a before after o no_argument h = h
+unapplied-gives a before after o (an_argument f g {xs = xs} u) h = further-gives a a before after (e.App f g) f g xs o refl refl refl (unapplied-gives a before after o u h)
 
-pub named-below : (l t : ℕ) → 60 * l + 4 ≡ t → 60 * l + 3 < t
+pub unapplied-tells : (a : Around) (before : HeldSites) (r : Refusal) {x y : ExpForm} {xs ys : List ExpForm} → Unapplied x xs y ys → SpineTells a before y ys r → SpineTells a before x xs r
+unapplied-tells a before r no_argument h = h
+unapplied-tells a before r (an_argument f g {xs = xs} u) h = further-told a a before (e.App f g) f g xs r refl refl refl (unapplied-tells a before r u h)
+
+-- the whole application, whose arguments are put into a list of its last one
+pub whole-gives : (a : Around) (before after : HeldSites) (f x : Exp) (o : HeldOut) {y : ExpForm} {xs ys : List ExpForm} → xs ≡ x.form ∷ [] → Unapplied f.form xs y ys → SpineGives a before y ys o after → (m : Mode) → Gives a before (e.App f x) m o after
+whole-gives a before after f x o {y = y} {ys = ys} ex u h m w s st =
+    application-gives w s (sites_in before) m f x (out_in o after) (unapplied-gives a before after o (subst (λ z. Unapplied f.form z y ys) ex u) h w s st)
+
+pub whole-tells : (a : Around) (before : HeldSites) (f x : Exp) (r : Refusal) {y : ExpForm} {xs ys : List ExpForm} → xs ≡ x.form ∷ [] → Unapplied f.form xs y ys → SpineTells a before y ys r → (m : Mode) → Tells a before (e.App f x) m r
+whole-tells a before f x r {y = y} {ys = ys} ex u h m w s st =
+    application-tells m f x (unapplied-tells a before r (subst (λ z. Unapplied f.form z y ys) ex u) h w s st)
+
+pub named-below : (l t : ℕ) → 60 * l + 8 ≡ t → 60 * l + 7 < t
 named-below l t d = omega (arith, d)
 
 pub callee-function : (w : World) (s : Scope) (x : ExpForm) (c : Callee) (f : Applied) → c ≡ callee.Function f → IsCallee w s x c → IsApplied w s x f
@@ -311,12 +351,12 @@ pub none-told : (a : Around) (before : HeldSites) (n d : ℕ) (xs : List ExpForm
 none-told a before n d xs arg (stop.Refused r) e t = λ w s x st ef en ev. none-tells n d ef en (ev ∙ ap (λ z. Some (d, z)) e) (t a.world.now.datatype_names)
 none-told a before n d xs arg stop.Memory e t = tt
 
-pub many-there : (given : Args) (x y : _) (rest behind : _) (stop : Stop) → given ≡ args.More x rest → rest.now ≡ args.More y behind → ((names : List (List ℕ)) → StopIs names no_further stop) → IfRefused {A = Unit {0}} (Err stop) (TellsMany (forms_in given))
-many-there given x y rest behind (stop.Refused r) e h t = (x.now.form, y.now.form, forms_in behind.now, ap forms_in e ∙ ap (λ z. x.now.form ∷ forms_in z) h, t)
-many-there given x y rest behind stop.Memory e h t = tt
+pub many-there : (given rest behind : List (Bor Exp)) (x y : Bor Exp) (stop : Stop) → given ≡ rest ++ x ∷ [] → rest ≡ behind ++ y ∷ [] → ((names : List (List ℕ)) → StopIs names no_further stop) → IfRefused {A = Unit {0}} (Err stop) (TellsMany (forms_in given))
+many-there given rest behind x y (stop.Refused r) e h t = (x.now.form, y.now.form, forms_in behind, more-forms given rest x e ∙ ap (λ z. x.now.form ∷ z) (more-forms rest behind y h), t)
+many-there given rest behind x y stop.Memory e h t = tt
 
-pub one-there : (given : Args) (x : _) (rest : _) → given ≡ args.More x rest → rest.now ≡ args.Nothing → forms_in given ≡ x.now.form ∷ []
-one-there given x rest e h = ap forms_in e ∙ ap (λ z. x.now.form ∷ forms_in z) h
+pub one-there : (given rest : List (Bor Exp)) (x : Bor Exp) → given ≡ rest ++ x ∷ [] → rest ≡ [] → forms_in given ≡ x.now.form ∷ []
+one-there given rest x e h = more-forms given rest x e ∙ ap (λ z. x.now.form ∷ z) (no-forms rest h)
 
 pub static-there : (params more : List Param) (es fs : List Resolved) → more ≡ params → fs ≡ es → are_static_at more (args_with fs).1 ≡ true → are_static_at params (args_with es).1 ≡ true
 static-there params more es fs ep ef h = subst (λ z. are_static_at params (args_with z).1 ≡ true) ef (subst (λ z. are_static_at z (args_with fs).1 ≡ true) ep h)

@@ -8,6 +8,7 @@ pub mod Elements
 pub mod Folds
 pub mod Forms
 pub mod Lambdas
+pub mod Leading
 pub mod Linking
 pub mod Literals
 pub mod Operators

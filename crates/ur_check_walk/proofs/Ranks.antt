@@ -8,6 +8,6 @@ falls a b x y t e l h = omega (arith, e, l, h)
 pub falls-whole : (b x y t : ℕ) → y ≡ x → 0 < b → 60 * x + b ≡ t → 60 * y < t
 falls-whole b x y t e l h = omega (arith, e, l, h)
 
--- a part that takes three levels
-pub falls-deeper : (a b x y t : ℕ) → x ≡ y + 3 → a ≤ 60 → 60 * x + b ≡ t → 60 * y + a < t
+-- a part that takes a level
+pub falls-deeper : (a b x y t : ℕ) → x ≡ y + 1 → a < 60 → 60 * x + b ≡ t → 60 * y + a < t
 falls-deeper a b x y t e l h = omega (arith, e, l, h)

@@ -116,7 +116,7 @@ pub lower : (l a b t : ℕ) → a < b → 60 * l + b ≡ t → 60 * l + a < t
 lower l a b t h d = omega (arith, h, d)
 
 -- with so many levels taken, what is done there is less
-pub deeper-below : (l k by t : ℕ) → l ≡ k + by → 1 ≤ by → 60 * l ≡ t → 60 * k + 50 < t
+pub deeper-below : (l k by t : ℕ) → l ≡ k + by → 1 ≤ by → 60 * l ≡ t → 60 * k + 54 < t
 deeper-below l k by t e h d = omega (arith, e, h, d)
 
 -- ---- what fails

@@ -1,8 +1,11 @@
 -- What is told of applications.
 use Rattle.std.specs.Prelude.{◌≡◌, ℕ, false, List, [], ◌∷◌, Some, codes}
 use mathlib.Core.Former.{Count}
+use Rattle.std.specs.Borrow.{Bor}
 use Rattle.ur_base.specs.declared.refusal.Refusal.{Refusal}
+use Rattle.ur_syntax.specs.declared.exp.Exp.{Exp}
 use Rattle.ur_syntax.specs.declared.exp.ExpForm.{ExpForm}
+use Rattle.ur_syntax.specs.declared.exp.ExpForm.TheVariants as e
 use Rattle.ur_rows.specs.declared.normal.NormalType.{NormalType}
 use Rattle.ur_tree.specs.declared.exp.Exp.{Exp as Resolved}
 use Rattle.ur_tree.specs.declared.exp.Exp.TheBlock.{Row_of-Exp as Row_of-Resolved}
@@ -20,13 +23,21 @@ use Rattle.ur_check_scopes.specs.Views.{Stands, Refuses}
 use Rattle.ur_check_rules.specs.declared.out.Out.{Out as HeldOut}
 use Rattle.ur_check_rules.specs.declared.out.Sites.{Sites as HeldSites}
 use Rattle.ur_check_rules.specs.Views.{sites_in, out_in, args_with}
-use Rattle.ur_check_walk.specs.declared.applied.Args.{Args}
-use Rattle.ur_check_walk.specs.declared.applied.Args.TheVariants as args
 
--- the arguments in written order
-abbrev pub forms_in : Args → List ExpForm
-forms_in args.Nothing = []
-forms_in (args.More' x _ rest) = x.now.form ∷ forms_in rest
+-- ---- what stands behind one another
+
+-- the arguments in written order, of which the first comes last, before others
+abbrev pub forms_onto : List (Bor Exp) → List ExpForm → List ExpForm
+forms_onto [] behind = behind
+forms_onto (x ∷ xs) behind = forms_onto xs (x.now.form ∷ behind)
+
+abbrev pub forms_in : List (Bor Exp) → List ExpForm
+forms_in xs = forms_onto xs []
+
+-- In the first expression, with arguments behind it, the second one is applied to these.
+pub data Unapplied : ExpForm → List ExpForm → ExpForm → List ExpForm → Type 0 where
+  no_argument : {x : ExpForm} {xs : List ExpForm} → Unapplied x xs x xs
+  an_argument : (f a : Exp) {y : ExpForm} {xs ys : List ExpForm} → Unapplied f.form (a.form ∷ xs) y ys → Unapplied (e.App f a) xs y ys
 
 -- ---- arguments against types
 

@@ -3,6 +3,7 @@ pub mod Applying
 pub mod Binding
 pub mod Embedding
 pub mod Folding
+pub mod Leading
 pub mod Listed
 pub mod Marking
 pub mod Promises

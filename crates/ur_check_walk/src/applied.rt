@@ -1,5 +1,5 @@
 //! Applications.
-ghost use Rattle.std.specs.Prelude.{◌≡◌, ◌&&◌, nat_le, true, false, [], ◌∷◌, map, Some, None, IfOk, slice_get};
+ghost use Rattle.std.specs.Prelude.{◌≡◌, ◌&&◌, nat_le, true, false, [], ◌∷◌, ◌++◌, map, Some, None, IfOk, slice_get};
 ghost use Rattle.ur_base.specs.Stopping.{IfRefused};
 ghost use Rattle.ur_syntax.specs.declared.exp.ExpForm.{ExpForm as GhostForm};
 ghost use Rattle.ur_syntax.specs.declared.exp.ExpForm.TheVariants as form;
@@ -21,7 +21,7 @@ ghost use Rattle.ur_check_scopes.specs.Views.{Stands, Refuses, head_in};
 ghost use Rattle.ur_check_rules.specs.Views.{args_with};
 ghost use Rattle.ur_check_rules.specs.Callees.{IsApplied};
 ghost use Rattle.ur_check_walk.specs.Promises.{StandsSomewhere, Gives, Tells};
-ghost use Rattle.ur_check_walk.specs.Applying.{forms_in, SpineGives, SpineTells, CallGives, CallTells, GivesArgs, TellsArgs, HeadBreaks, BreaksStatic, TellsMany};
+ghost use Rattle.ur_check_walk.specs.Applying.{forms_in, Unapplied, SpineGives, SpineTells, CallGives, CallTells, GivesArgs, TellsArgs, HeadBreaks, BreaksStatic, TellsMany};
 
 use crate::walk::typed;
 use std::alloc::Global;
@@ -30,16 +30,30 @@ use ur_check_rules::{
     Applied, Callee, Out, Sites, applied_to, are_static, called, callee_of, extra_argument,
     missing_argument, parameters, pushed, result_behind,
 };
-use ur_check_scopes::{Around, Head, are_arguments, deeper, instances_of};
+use ur_check_scopes::{Around, Head, are_arguments, instances_of};
 use ur_rows::{Normal, NormalType, copy_type};
 use ur_syntax::{Exp, ExpForm};
 use ur_tree::{Exp as Resolved, Variant};
 
-/// Arguments in written order.
-#[derive(Clone, Copy)]
-pub enum Args<'a> {
-    Nothing,
-    More(&'a Exp, &'a Args<'a>),
+/// More than there are tokens in a source, so that no expression has as many arguments.
+const MOST: usize = 4_194_304;
+
+/// What is applied in an expression: its arguments are put behind those that stand behind it, so that the first comes last.
+pub fn unapplied<'a>(e: &'a Exp, args: &mut List<&'a Exp>) -> Result<&'a Exp, Memory>
+    ensures head { IfOk result (λ f. is_applied f.now.form ≡ false) }
+    ensures applied { IfOk result (λ f. Unapplied e.now.form (forms_in args.old) f.now.form (forms_in args.new)) }
+{
+    let mut at = e;
+    for _argument in 0..MOST {
+        match &at.form {
+            ExpForm::App(f, a) => {
+                args.push(a.get())?;
+                at = f.get();
+            }
+            _ => return Ok(at),
+        }
+    }
+    Err(Memory)
 }
 
 /// `f a`, which with the applications in f is one of what is applied there to all arguments.
@@ -56,33 +70,10 @@ pub fn application(
     ensures typed { IfOk result (λ o. (m : GhostMode) → Gives around.now sites.old (form.App f.now a.now) m o sites.new) }
     ensures refused { IfRefused result (λ r. (m : GhostMode) → Tells around.now sites.old (form.App f.now a.now) m r) }
 {
-    let none = Args::Nothing;
-    let args = Args::More(&*a, &none);
-    spine(alloc, around, sites, span, f, &args)
-}
-
-/// What is applied, with the arguments behind it.
-#[cycle(walk)]
-fn spine(
-    alloc: Global,
-    around: &Around,
-    sites: &mut Sites,
-    span: Span,
-    e: &Exp,
-    args: &Args,
-) -> Result<Out, Stop>
-    requires { StandsSomewhere around.now }
-    ensures typed { IfOk result (λ o. SpineGives around.now sites.old e.now.form (forms_in args.now) o sites.new) }
-    ensures refused { IfRefused result (SpineTells around.now sites.old e.now.form (forms_in args.now)) }
-{
-    match &e.form {
-        ExpForm::App(f, a) => {
-            let inner = deeper(around, 2)?;
-            let more = Args::More(a.get(), &*args);
-            spine(alloc, &inner, sites, span, f.get(), &more)
-        }
-        _ => at_head(alloc, around, sites, span, e, args),
-    }
+    let mut args = List::new(alloc);
+    args.push(&*a)?;
+    let head = unapplied(f, &mut args)?;
+    at_head(alloc, around, sites, span, head, args)
 }
 
 /// What is no application, with the arguments behind it.
@@ -93,11 +84,11 @@ fn at_head(
     sites: &mut Sites,
     span: Span,
     e: &Exp,
-    args: &Args,
+    args: List<&Exp>,
 ) -> Result<Out, Stop>
     requires { StandsSomewhere around.now }
-    ensures typed { IfOk result (λ o. is_applied e.now.form ≡ false → SpineGives around.now sites.old e.now.form (forms_in args.now) o sites.new) }
-    ensures refused { IfRefused result (λ r. is_applied e.now.form ≡ false → SpineTells around.now sites.old e.now.form (forms_in args.now) r) }
+    ensures typed { IfOk result (λ o. is_applied e.now.form ≡ false → SpineGives around.now sites.old e.now.form (forms_in args.entry) o sites.new) }
+    ensures refused { IfRefused result (λ r. is_applied e.now.form ≡ false → SpineTells around.now sites.old e.now.form (forms_in args.entry) r) }
 {
     let callee = callee_of(alloc, around, e)?;
     match callee {
@@ -107,6 +98,14 @@ fn at_head(
     }
 }
 
+/// The resolved arguments with one more.
+fn with_argument(done: List<Resolved>, out: Out) -> Result<List<Resolved>, Memory>
+    ensures { IfOk result (λ more. more ≡ done ++ out.exp ∷ []) }
+{
+    let more = pushed(done, out.exp)?;
+    Ok(more)
+}
+
 /// Arguments against types, in order.
 #[cycle(walk)]
 pub fn arguments(
@@ -114,26 +113,25 @@ pub fn arguments(
     around: &Around,
     sites: &mut Sites,
     span: Span,
-    args: &Args,
+    args: List<&Exp>,
     types: &[NormalType],
 ) -> Result<List<Resolved>, Stop>
     requires { StandsSomewhere around.now }
-    ensures typed { IfOk result (λ done. GivesArgs around.now sites.old (forms_in args.now) types.now done sites.new) }
-    ensures refused { IfRefused result (TellsArgs around.now sites.old (forms_in args.now) types.now) }
+    ensures typed { IfOk result (λ done. GivesArgs around.now sites.old (forms_in args.entry) types.now done sites.new) }
+    ensures refused { IfRefused result (TellsArgs around.now sites.old (forms_in args.entry) types.now) }
 {
     let mut done = List::new(alloc);
     let mut left = args;
     let mut wanted = types;
-    while let Args::More(e, rest) = left {
+    while let Some(e) = left.pop() {
         match wanted.split_first() {
             Some((of, behind)) => {
                 let out = typed(alloc, around, sites, e, Some(of))?;
-                done = pushed(done, out.exp)?;
+                done = with_argument(done, out)?;
                 wanted = behind;
             }
             None => return Err(extra_argument(alloc, e.span)),
         }
-        left = rest;
     }
     match wanted.split_first() {
         None => Ok(done),
@@ -149,12 +147,12 @@ fn named(
     sites: &mut Sites,
     span: Span,
     function: Applied,
-    args: &Args,
+    args: List<&Exp>,
 ) -> Result<Out, Stop>
     requires stands { StandsSomewhere around.now }
     requires ordered { are_normal function.args ≡ true }
-    ensures typed { IfOk result (λ o. (w : GhostWorld) (s : GhostScope) (x : GhostForm) → Stands around.now w s → IsApplied w s x function.entry → CallGives w s sites.old x (forms_in args.now) o sites.new) }
-    ensures refused { IfRefused result (λ r. (w : GhostWorld) (s : GhostScope) (x : GhostForm) → Stands around.now w s → IsApplied w s x function.entry → CallTells around.now.world.now.datatype_names w s sites.old x (forms_in args.now) r) }
+    ensures typed { IfOk result (λ o. (w : GhostWorld) (s : GhostScope) (x : GhostForm) → Stands around.now w s → IsApplied w s x function.entry → CallGives w s sites.old x (forms_in args.entry) o sites.new) }
+    ensures refused { IfRefused result (λ r. (w : GhostWorld) (s : GhostScope) (x : GhostForm) → Stands around.now w s → IsApplied w s x function.entry → CallTells around.now.world.now.datatype_names w s sites.old x (forms_in args.entry) r) }
 {
     let number = function.number;
     match around.world.functions.get(number as usize) {
@@ -223,12 +221,12 @@ fn call(
     span: Span,
     function: Applied,
     head: &Head,
-    args: &Args,
+    args: List<&Exp>,
 ) -> Result<Out, Stop>
     requires stands { StandsSomewhere around.now }
     requires ordered { are_normal function.args ≡ true }
-    ensures typed { IfOk result (λ o. (w : GhostWorld) (s : GhostScope) (x : GhostForm) → Stands around.now w s → IsApplied w s x function.entry → slice_get w.declared.functions function.entry.number ≡ Some (head_in head.now) → CallGives w s sites.old x (forms_in args.now) o sites.new) }
-    ensures refused { IfRefused result (λ r. (w : GhostWorld) (s : GhostScope) (x : GhostForm) → Stands around.now w s → IsApplied w s x function.entry → slice_get w.declared.functions function.entry.number ≡ Some (head_in head.now) → CallTells around.now.world.now.datatype_names w s sites.old x (forms_in args.now) r) }
+    ensures typed { IfOk result (λ o. (w : GhostWorld) (s : GhostScope) (x : GhostForm) → Stands around.now w s → IsApplied w s x function.entry → slice_get w.declared.functions function.entry.number ≡ Some (head_in head.now) → CallGives w s sites.old x (forms_in args.entry) o sites.new) }
+    ensures refused { IfRefused result (λ r. (w : GhostWorld) (s : GhostScope) (x : GhostForm) → Stands around.now w s → IsApplied w s x function.entry → slice_get w.declared.functions function.entry.number ≡ Some (head_in head.now) → CallTells around.now.world.now.datatype_names w s sites.old x (forms_in args.entry) r) }
 {
     let number = function.number;
     let (types, of) = call_types(alloc, around, span, &function, head)?;
@@ -246,11 +244,11 @@ fn build(
     sites: &mut Sites,
     span: Span,
     number: u32,
-    args: &Args,
+    args: List<&Exp>,
 ) -> Result<Out, Stop>
     requires { StandsSomewhere around.now }
-    ensures typed { IfOk result (λ o. (w : GhostWorld) (s : GhostScope) (x : GhostForm) → Stands around.now w s → rules.function_at w s x ≡ None → rules.tag_named w x ≡ Some number → CallGives w s sites.old x (forms_in args.now) o sites.new) }
-    ensures refused { IfRefused result (λ r. (w : GhostWorld) (s : GhostScope) (x : GhostForm) → Stands around.now w s → rules.function_at w s x ≡ None → rules.tag_named w x ≡ Some number → CallTells around.now.world.now.datatype_names w s sites.old x (forms_in args.now) r) }
+    ensures typed { IfOk result (λ o. (w : GhostWorld) (s : GhostScope) (x : GhostForm) → Stands around.now w s → rules.function_at w s x ≡ None → rules.tag_named w x ≡ Some number → CallGives w s sites.old x (forms_in args.entry) o sites.new) }
+    ensures refused { IfRefused result (λ r. (w : GhostWorld) (s : GhostScope) (x : GhostForm) → Stands around.now w s → rules.function_at w s x ≡ None → rules.tag_named w x ≡ Some number → CallTells around.now.world.now.datatype_names w s sites.old x (forms_in args.entry) r) }
 {
     match around.world.variants.get(number as usize) {
         Some(variant) => built(alloc, around, sites, span, number, variant, args),
@@ -267,11 +265,11 @@ fn built(
     span: Span,
     number: u32,
     variant: &Variant,
-    args: &Args,
+    args: List<&Exp>,
 ) -> Result<Out, Stop>
     requires { StandsSomewhere around.now }
-    ensures typed { IfOk result (λ o. (w : GhostWorld) (s : GhostScope) (x : GhostForm) → Stands around.now w s → rules.function_at w s x ≡ None → rules.tag_named w x ≡ Some number → slice_get w.declared.variants number ≡ Some (variant.now.datatype, variant.now.arg) → CallGives w s sites.old x (forms_in args.now) o sites.new) }
-    ensures refused { IfRefused result (λ r. (w : GhostWorld) (s : GhostScope) (x : GhostForm) → Stands around.now w s → rules.function_at w s x ≡ None → rules.tag_named w x ≡ Some number → slice_get w.declared.variants number ≡ Some (variant.now.datatype, variant.now.arg) → CallTells around.now.world.now.datatype_names w s sites.old x (forms_in args.now) r) }
+    ensures typed { IfOk result (λ o. (w : GhostWorld) (s : GhostScope) (x : GhostForm) → Stands around.now w s → rules.function_at w s x ≡ None → rules.tag_named w x ≡ Some number → slice_get w.declared.variants number ≡ Some (variant.now.datatype, variant.now.arg) → CallGives w s sites.old x (forms_in args.entry) o sites.new) }
+    ensures refused { IfRefused result (λ r. (w : GhostWorld) (s : GhostScope) (x : GhostForm) → Stands around.now w s → rules.function_at w s x ≡ None → rules.tag_named w x ≡ Some number → slice_get w.declared.variants number ≡ Some (variant.now.datatype, variant.now.arg) → CallTells around.now.world.now.datatype_names w s sites.old x (forms_in args.entry) r) }
 {
     match &variant.arg {
         Some(of) => {
@@ -296,16 +294,17 @@ fn tagged(alloc: Global, datatype: u32, number: u32, out: Out) -> Result<Out, Me
 }
 
 /// The only argument. There is one in each application.
-fn sole<'a>(alloc: Global, args: &Args<'a>) -> Result<&'a Exp, Stop>
-    ensures sole { IfOk result (λ e. forms_in args.now ≡ e.now.form ∷ []) }
-    ensures refused { IfRefused result (TellsMany (forms_in args.now)) }
+fn sole<'a>(alloc: Global, args: List<&'a Exp>) -> Result<&'a Exp, Stop>
+    ensures sole { IfOk result (λ e. forms_in args.entry ≡ e.now.form ∷ []) }
+    ensures refused { IfRefused result (TellsMany (forms_in args.entry)) }
 {
-    match args {
-        Args::More(e, rest) => match rest {
-            Args::Nothing => Ok(e),
-            Args::More(second, _) => Err(extra_argument(alloc, second.span)),
+    let mut left = args;
+    match left.pop() {
+        Some(e) => match left.pop() {
+            None => Ok(e),
+            Some(second) => Err(extra_argument(alloc, second.span)),
         },
-        Args::Nothing => Err(Stop::Memory),
+        None => Err(Stop::Memory),
     }
 }
 
@@ -346,11 +345,11 @@ fn other(
     sites: &mut Sites,
     span: Span,
     e: &Exp,
-    args: &Args,
+    args: List<&Exp>,
 ) -> Result<Out, Stop>
     requires { StandsSomewhere around.now }
-    ensures typed { IfOk result (λ o. (w : GhostWorld) (s : GhostScope) → Stands around.now w s → rules.function_at w s e.now.form ≡ None → rules.tag_named w e.now.form ≡ None → is_head e.now.form ≡ true → CallGives w s sites.old e.now.form (forms_in args.now) o sites.new) }
-    ensures refused { IfRefused result (λ r. (w : GhostWorld) (s : GhostScope) → Stands around.now w s → rules.function_at w s e.now.form ≡ None → rules.tag_named w e.now.form ≡ None → CallTells around.now.world.now.datatype_names w s sites.old e.now.form (forms_in args.now) r) }
+    ensures typed { IfOk result (λ o. (w : GhostWorld) (s : GhostScope) → Stands around.now w s → rules.function_at w s e.now.form ≡ None → rules.tag_named w e.now.form ≡ None → is_head e.now.form ≡ true → CallGives w s sites.old e.now.form (forms_in args.entry) o sites.new) }
+    ensures refused { IfRefused result (λ r. (w : GhostWorld) (s : GhostScope) → Stands around.now w s → rules.function_at w s e.now.form ≡ None → rules.tag_named w e.now.form ≡ None → CallTells around.now.world.now.datatype_names w s sites.old e.now.form (forms_in args.entry) r) }
 {
     let function = typed(alloc, around, sites, e, None)?;
     let types = parameter_types(alloc, &function.of)?;

@@ -34,9 +34,7 @@ use std::alloc::Global;
 use std::slice;
 use ur_base::{List, Memory, Span, Stop};
 use ur_check_cases::{covers, pattern_at};
-use ur_check_rules::{
-    Out, Sites, bind_of, case_of, if_of, lambda_of, let_of, settled, with_branch,
-};
+use ur_check_rules::{Out, Sites, bind_of, case_of, lambda_of, let_of, settled, with_branch};
 use ur_check_scopes::{
     Around, Local, Locals, Scope, World, are_params, binder_local, deeper, not_of_type, of_result,
     params_out, repeated_name, tree_params, twice, type_at, type_not_so, value_of,
@@ -145,45 +143,6 @@ fn bound_out(
         }
         None => Err(not_run(alloc, around, span, &second.of)),
     }
-}
-
-/// `if c then a else b`.
-#[cycle(walk)]
-pub fn conditional(
-    alloc: Global,
-    around: &Around,
-    sites: &mut Sites,
-    c: &Exp,
-    a: &Exp,
-    b: &Exp,
-    wanted: Option<&NormalType>,
-) -> Result<Out, Stop>
-    requires { StandsSomewhere around.now }
-    ensures typed { IfOk result (λ o. Gives around.now sites.old (e.If c.now a.now b.now) (mode_of (option_copied wanted.entry)) o sites.new) }
-    ensures refused { IfRefused result (Tells around.now sites.old (e.If c.now a.now b.now) (mode_of (option_copied wanted.entry))) }
-{
-    let condition = typed(alloc, around, sites, c, Some(&NormalType::Bool))?;
-    let (yes, no) = choices(alloc, around, sites, a, b, wanted)?;
-    let exp = if_of(alloc, condition.exp, yes.exp, no.exp)?;
-    Ok(Out { of: yes.of, exp })
-}
-
-#[cycle(walk)]
-fn choices(
-    alloc: Global,
-    around: &Around,
-    sites: &mut Sites,
-    a: &Exp,
-    b: &Exp,
-    wanted: Option<&NormalType>,
-) -> Result<(Out, Out), Stop>
-    requires { StandsSomewhere around.now }
-    ensures typed { IfOk result (λ o. GivesSides around.now sites.old a.now b.now (mode_of (option_copied wanted.entry)) o sites.new) }
-    ensures refused { IfRefused result (TellsSides around.now sites.old a.now b.now (mode_of (option_copied wanted.entry))) }
-{
-    let yes = typed(alloc, around, sites, a, wanted)?;
-    let no = typed(alloc, around, sites, b, Some(&yes.of))?;
-    Ok((yes, no))
 }
 
 /// What the branches give: the type of their bodies and the resolved branches.
@@ -352,7 +311,7 @@ fn further(
 {
     match vals.split_first() {
         Some((val, rest)) => {
-            let inner = deeper(around, 3)?;
+            let inner = deeper(around, 1)?;
             let out = val_in(alloc, &inner, sites, span, val, rest, body, wanted)?;
             let made = settled(alloc, around, span, out, wanted)?;
             Ok(made)

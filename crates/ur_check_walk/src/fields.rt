@@ -8,18 +8,19 @@ ghost use Rattle.ur_rows.specs.Types as types;
 ghost use Rattle.ur_tree.specs.Env.{variables};
 ghost use Rattle.ur_typed_rules.specs.Scopes.{World as GhostWorld, Scope as GhostScope, Mode as GhostMode};
 ghost use Rattle.ur_typed_rules.specs.Rules.{label_at};
-ghost use Rattle.ur_check_scopes.specs.Views.{Stands, Refuses, mode_of};
+ghost use Rattle.ur_check_rules.specs.Telling.{TellsIn};
+ghost use Rattle.ur_check_scopes.specs.Views.{Stands, mode_of};
 ghost use Rattle.ur_check_walk.specs.Promises.{StandsSomewhere, Gives, Tells};
 ghost use Rattle.ur_check_walk.specs.Records.{BreaksLabel, TakesField, TellsField, GivesFields};
 
 use crate::walk::typed;
 use std::alloc::Global;
 use ur_base::{List, Memory, Span, Stop};
-use ur_check_rules::{Out, Sites, cut_out, project_out, record_out, with_field};
+use ur_check_rules::{Out, Sites, record_out, with_field};
 use ur_check_scopes::{Around, label_at, of_field, unkinded};
 use ur_rows::{Label, NormalType, Part, boxed, copy_label};
 use ur_rows_normal::label_is_in;
-use ur_syntax::{Exp, Field, FieldName, Removed};
+use ur_syntax::{Field, FieldName};
 use ur_tree::FieldExp;
 
 /// The fields of a record so far, in written order: their types and their values.
@@ -73,7 +74,7 @@ pub fn is_label(around: &Around, label: &Label) -> bool
 fn field_label(alloc: Global, around: &Around, span: Span, name: &FieldName) -> Result<Label, Stop>
     ensures label { IfOk result (λ l. (w : GhostWorld) (s : GhostScope) → Stands around.now w s → l ≡ label_at s name.now) }
     ensures scoped { IfOk result (λ l. (w : GhostWorld) (s : GhostScope) → Stands around.now w s → label_is_in (variables s.env) (label_at s name.now) ≡ true) }
-    ensures refused { IfRefused result (λ r. (w : GhostWorld) (s : GhostScope) → Stands around.now w s → Refuses around.now.world.now.datatype_names (BreaksLabel s name.now) r) }
+    ensures refused { IfRefused result (TellsIn around.now (λ _ w s. BreaksLabel s name.now)) }
 {
     let label = label_at(alloc, &around.scope.cons, name)?;
     if is_label(around, &label) {
@@ -141,45 +142,5 @@ fn one_more(
     let asked = of_field(&label, wanted);
     let out = typed(alloc, around, sites, &written.value, asked)?;
     let made = with_value(alloc, fields, label, out)?;
-    Ok(made)
-}
-
-/// `e.A`.
-#[cycle(walk)]
-pub fn project(
-    alloc: Global,
-    around: &Around,
-    sites: &mut Sites,
-    span: Span,
-    a: &Exp,
-    name: &FieldName,
-) -> Result<Out, Stop>
-    requires { StandsSomewhere around.now }
-    ensures typed { IfOk result (λ o. (m : GhostMode) → Gives around.now sites.old (form.Project a.now name.now) m o sites.new) }
-    ensures refused { IfRefused result (λ r. (m : GhostMode) → Tells around.now sites.old (form.Project a.now name.now) m r) }
-{
-    let out = typed(alloc, around, sites, a, None)?;
-    let label = label_at(alloc, &around.scope.cons, name)?;
-    let made = project_out(alloc, around, span, label, out)?;
-    Ok(made)
-}
-
-/// `e -- #A`.
-#[cycle(walk)]
-pub fn cut(
-    alloc: Global,
-    around: &Around,
-    sites: &mut Sites,
-    span: Span,
-    a: &Exp,
-    removed: &Removed,
-) -> Result<Out, Stop>
-    requires { StandsSomewhere around.now }
-    ensures typed { IfOk result (λ o. (m : GhostMode) → Gives around.now sites.old (form.Remove a.now removed.now) m o sites.new) }
-    ensures refused { IfRefused result (λ r. (m : GhostMode) → Tells around.now sites.old (form.Remove a.now removed.now) m r) }
-{
-    let out = typed(alloc, around, sites, a, None)?;
-    let label = label_at(alloc, &around.scope.cons, &removed.name)?;
-    let made = cut_out(alloc, around, span, label, out)?;
     Ok(made)
 }

@@ -2,7 +2,10 @@
 #![tactic(auto)]
 
 mod applied;
+mod begun;
 mod bound;
+mod chain;
+mod closed;
 mod embedded;
 mod fields;
 mod folded;

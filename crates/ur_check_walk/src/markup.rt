@@ -197,7 +197,7 @@ fn part_out(
         XmlForm::Show(n) => shown(alloc, around, sites, within, part.span, *n, place),
         XmlForm::Splice(n) => spliced(alloc, around, sites, within, part.span, *n, place),
         XmlForm::Element(tag, attrs, parts) => {
-            let inner = deeper(around, 3)?;
+            let inner = deeper(around, 1)?;
             element(
                 alloc,
                 &inner,

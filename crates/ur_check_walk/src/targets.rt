@@ -18,7 +18,8 @@ ghost use Rattle.ur_typed.specs.Rules as rules;
 ghost use Rattle.ur_typed.specs.Rules.{Sites as GhostSites};
 ghost use Rattle.ur_typed.specs.Markups as markups;
 ghost use Rattle.ur_typed.specs.Parts.{is_applied};
-ghost use Rattle.ur_check_scopes.specs.Views.{Stands, Refuses, StopIs};
+ghost use Rattle.ur_check_rules.specs.Telling.{TellsIn};
+ghost use Rattle.ur_check_scopes.specs.Views.{Stands, StopIs};
 ghost use Rattle.ur_check_rules.specs.Views.{args_with};
 ghost use Rattle.ur_check_forms.specs.Views.{marks_with, marked_with, records_in};
 ghost use Rattle.ur_check_walk.specs.Promises.{StandsSomewhere};
@@ -26,7 +27,7 @@ ghost use Rattle.ur_check_walk.specs.Applying.{forms_in};
 ghost use Rattle.ur_check_walk.specs.Marking.{GivesNode, TellsNode};
 ghost use Rattle.ur_check_walk.specs.Aiming.{Aims, BreaksAim, GivesTarget, TellsTarget, GivesValue, TellsValue, IsStray, held_with};
 
-use crate::applied::{Args, arguments};
+use crate::applied::{arguments, unapplied};
 use crate::fields::is_label;
 use crate::markup::{Within, parts_out};
 use crate::walk::typed;
@@ -34,9 +35,9 @@ use std::alloc::Global;
 use ur_base::{Boxed, List, Memory, Span, Stop};
 use ur_check_forms::{Marked, Target, Waiting, action_types, link_types, mark_of};
 use ur_check_rules::{Sites, function_named, string_of};
-use ur_check_scopes::{Around, deeper, not_so, unkinded};
+use ur_check_scopes::{Around, not_so, unkinded};
 use ur_rows::{Label, NormalType, copy_label};
-use ur_syntax::{AttrValue, Exp, ExpForm, XmlPart};
+use ur_syntax::{AttrValue, Exp, XmlPart};
 use ur_tree::{Exp as Resolved, Markup};
 use ur_values::FieldKind;
 use ur_xmltype::{Place, field_row};
@@ -62,7 +63,7 @@ fn attribute<'a>(within: &Within<'a>, number: u32) -> Result<&'a Exp, Memory>
 fn aimed(alloc: Global, around: &Around, span: Span, e: &Exp, aim: Aim) -> Result<Target, Stop>
     ensures named { IfOk result (λ t. (w : GhostWorld) (s : GhostScope) → Stands around.now w s → rules.function_named w s e.now.form ≡ Some t.number) }
     ensures target { IfOk result (λ t. (w : GhostWorld) (s : GhostScope) → Stands around.now w s → Aims aim w.declared t) }
-    ensures refused { IfRefused result (λ r. (w : GhostWorld) (s : GhostScope) → Stands around.now w s → Refuses around.now.world.now.datatype_names (BreaksAim aim w.declared (rules.function_named w s e.now.form)) r) }
+    ensures refused { IfRefused result (TellsIn around.now (λ _ w s. BreaksAim aim w.declared (rules.function_named w s e.now.form))) }
 {
     let found = function_named(around, e)?;
     match aim {
@@ -83,20 +84,16 @@ fn too_many(alloc: Global, span: Span) -> Stop
 }
 
 /// No more arguments than types: further ones make a target of another shape.
-fn few_enough(alloc: Global, args: &Args, types: &[NormalType]) -> Result<(), Stop>
+fn few_enough(alloc: Global, args: &List<&Exp>, types: &[NormalType]) -> Result<(), Stop>
     ensures ok { OnOk result (length (forms_in args.now) ≤ length types.now) }
     ensures refused { IfRefused result (λ r. (length types.now < length (forms_in args.now)) × ((names : GhostList (GhostList ℕ)) → TellsFault names r faults.too_many_given)) }
 {
-    let mut left = args;
-    let mut wanted = types;
-    while let Args::More(e, rest) = left {
-        match wanted.split_first() {
-            Some((_, behind)) => wanted = behind,
-            None => return Err(too_many(alloc, e.span)),
-        }
-        left = rest;
+    let given = args.as_slice();
+    if given.len() <= types.len() {
+        return Ok(());
     }
-    Ok(())
+    let e = given[given.len() - 1 - types.len()];
+    Err(too_many(alloc, e.span))
 }
 
 /// A page function that is applied to arguments, or stands alone.
@@ -107,21 +104,15 @@ fn target_at(
     sites: &mut Sites,
     span: Span,
     e: &Exp,
-    args: &Args,
     aim: Aim,
 ) -> Result<(Target, List<Resolved>), Stop>
     requires { StandsSomewhere around.now }
-    ensures typed { IfOk result (λ o. GivesTarget around.now sites.old aim e.now.form (forms_in args.now) o sites.new) }
-    ensures refused { IfRefused result (TellsTarget around.now sites.old aim e.now.form (forms_in args.now)) }
+    ensures typed { IfOk result (λ o. GivesTarget around.now sites.old aim e.now.form [] o sites.new) }
+    ensures refused { IfRefused result (TellsTarget around.now sites.old aim e.now.form []) }
 {
-    match &e.form {
-        ExpForm::App(f, a) => {
-            let inner = deeper(around, 2)?;
-            let more = Args::More(a.get(), &*args);
-            target_at(alloc, &inner, sites, span, f.get(), &more, aim)
-        }
-        _ => target_named(alloc, around, sites, span, e, args, aim),
-    }
+    let mut args = List::new(alloc);
+    let head = unapplied(e, &mut args)?;
+    target_named(alloc, around, sites, span, head, args, aim)
 }
 
 /// What is no application, with the arguments behind it.
@@ -132,16 +123,16 @@ fn target_named(
     sites: &mut Sites,
     span: Span,
     e: &Exp,
-    args: &Args,
+    args: List<&Exp>,
     aim: Aim,
 ) -> Result<(Target, List<Resolved>), Stop>
     requires { StandsSomewhere around.now }
-    ensures typed { IfOk result (λ o. is_applied e.now.form ≡ false → GivesTarget around.now sites.old aim e.now.form (forms_in args.now) o sites.new) }
-    ensures refused { IfRefused result (λ r. is_applied e.now.form ≡ false → TellsTarget around.now sites.old aim e.now.form (forms_in args.now) r) }
+    ensures typed { IfOk result (λ o. is_applied e.now.form ≡ false → GivesTarget around.now sites.old aim e.now.form (forms_in args.entry) o sites.new) }
+    ensures refused { IfRefused result (λ r. is_applied e.now.form ≡ false → TellsTarget around.now sites.old aim e.now.form (forms_in args.entry) r) }
 {
     let target = aimed(alloc, around, span, e, aim)?;
     let types = target.args.as_slice();
-    few_enough(alloc, args, types)?;
+    few_enough(alloc, &args, types)?;
     let done = arguments(alloc, around, sites, span, args, types)?;
     Ok((target, done))
 }
@@ -226,8 +217,7 @@ pub fn link(
     ensures refused { IfRefused result (TellsNode around.now sites.old within.now (place_in place) parts.now (node.link number)) }
 {
     let e = attribute(within, number)?;
-    let none = Args::Nothing;
-    let (target, args) = target_at(alloc, around, sites, e.span, e, &none, Aim::Link)?;
+    let (target, args) = target_at(alloc, around, sites, e.span, e, Aim::Link)?;
     let inner = parts_out(alloc, around, sites, within, parts, place)?;
     let made = link_mark(alloc, target.number, args, inner)?;
     Ok(made)
@@ -336,8 +326,7 @@ pub fn submit(
     ensures refused { IfRefused result (λ r. (p : places.Place) (parts : GhostList GhostXmlPart) → TellsNode around.now sites.old within.now p parts (node.submit number (option_copied value.entry)) r) }
 {
     let e = attribute(within, number)?;
-    let none = Args::Nothing;
-    let (target, args) = target_at(alloc, around, sites, e.span, e, &none, Aim::Action)?;
+    let (target, args) = target_at(alloc, around, sites, e.span, e, Aim::Action)?;
     let held = value_at(alloc, around, sites, within, value)?;
     let made = submitted(alloc, span, target, args, held)?;
     Ok(made)

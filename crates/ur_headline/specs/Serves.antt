@@ -1,12 +1,14 @@
 -- What a run serves: the sessions, the bytes given and the tables afterwards are the source's.
-use Rattle.std.specs.Prelude.{◌≡◌, ◌⊎◌, ℕ, ◌++◌, List, length, drop, Option, Some, option_map, ⊤}
+use Rattle.std.specs.Prelude.{◌≡◌, ◌⊎◌, ℕ, true, ◌++◌, List, length, drop, Option, Some, option_map, ⊤}
 use Rattle.ur_base.specs.Told.{Tells}
 use Rattle.ur_io.specs.declared.session.SessionEnd.{SessionEnd}
 use Rattle.ur_io.specs.Traffic.{Traffic}
 use Rattle.ur_words.specs.declared.reading.Settings.{Settings}
 use Rattle.ur_values.specs.declared.schema.Schema.{Schema}
-use Rattle.ur_values.specs.SchemaText.{schema_text}
+use Rattle.ur_values.specs.Extends.{extends}
 use Rattle.ur_values.specs.Store.{Store}
+use Rattle.ur_keeper.specs.Growing.{grown_tables}
+use Rattle.ur_keeper.specs.Keeper.{IsReadAs}
 use Rattle.ur_keeper.specs.Tables.{Tables, KeptSchema, Untold, Empty, Keeps, Spells, AreSound, empty_tables, store_of}
 use Rattle.ur_conditions.specs.declared.patterns.Patterns.{Patterns}
 use Rattle.ur_conditions.specs.Patterns.{AreAllPatterns}
@@ -17,20 +19,21 @@ use Rattle.ur_headline.specs.Source.{AreSessions, AreCachedSessions}
 -- ---- tables
 
 -- The tables that `attach` leaves: where the store was empty, the schema's empty ones; where it kept a schema or the text of one, those
--- that it had. Of a store that did not tell its schema nothing is said.
+-- that it had, with Absent in each new column. Of a store that did not tell its schema nothing is said.
 abbrev pub AttachLeaves : Schema → KeptSchema → Option Tables → Tables → Type 0
 AttachLeaves schema Untold saved tables = ⊤
 AttachLeaves schema Empty saved tables = tables ≡ empty_tables schema
-AttachLeaves schema (Keeps kept) saved tables = saved ≡ Some tables
-AttachLeaves schema (Spells text has) saved tables = tables ≡ has schema
+AttachLeaves schema (Keeps kept) saved tables = Some tables ≡ option_map (grown_tables schema kept) saved
+AttachLeaves schema (Spells text has) saved tables = (kept : Schema) × IsReadAs schema text kept × (extends schema kept ≡ true) × (tables ≡ grown_tables schema kept (has kept))
 
--- The saved tables where nothing was served: as before, or, where the store was empty, the schema's empty ones, and where it kept the
--- schema's text, those that it had.
+-- The saved tables where nothing was served: as before, or, where the store was empty, the schema's empty ones, and where it kept a schema
+-- or the text of one that the given one extends, those that it had, with Absent in each new column.
 abbrev pub IsAttached : Schema → KeptSchema → Option Tables → Option Tables → Type 0
 IsAttached schema Untold saved saved' = ⊤
 IsAttached schema Empty saved saved' = (saved' ≡ saved) ⊎ (saved' ≡ option_map (λ t. empty_tables schema) saved)
-IsAttached schema (Keeps kept) saved saved' = saved' ≡ saved
-IsAttached schema (Spells text has) saved saved' = (saved' ≡ saved) ⊎ ((text ≡ schema_text schema) × (saved' ≡ Some (has schema)))
+IsAttached schema (Keeps kept) saved saved' = (saved' ≡ saved) ⊎ ((extends schema kept ≡ true) × (saved' ≡ option_map (grown_tables schema kept) saved))
+IsAttached schema (Spells text has) saved saved' =
+    (saved' ≡ saved) ⊎ ((kept : Schema) × IsReadAs schema text kept × (extends schema kept ≡ true) × (saved' ≡ Some (grown_tables schema kept (has kept))))
 
 -- ---- runs
 

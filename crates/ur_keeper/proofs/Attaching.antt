@@ -1,5 +1,6 @@
 -- A store that is attached: what it is at first, and its numbers.
-use Rattle.std.proofs.Common.{◌≡◌, ◌↔◌, ℕ, ℤ, pos, ◌≤◌, ◌≤ℤ◌, Bool, true, false, List, [], ◌∷◌, length, map, not, nat_lt, All, Some, IsNone, IsTrue, refl, ap₂, sym, subst, ◌∙◌, arith}
+use Rattle.std.proofs.Common.{◌≡◌, ◌↔◌, ℕ, ℤ, pos, ◌≤◌, ◌≤ℤ◌, Bool, true, false, List, [], ◌∷◌, length, map, not, nat_lt, All, Some, IsNone, IsTrue}
+use Rattle.std.proofs.Common.{refl, ap₂, sym, subst, ◌∙◌, arith}
 use Rattle.std.specs.List.{AllZip, prefix_len}
 use Rattle.std.proofs.lemmas.Int.{ints}
 use Rattle.std.proofs.lemmas.Bool.{both_ways}
@@ -56,7 +57,8 @@ empty-sound schema =
       commits = zip-made MayCommitTable schema.tables [] (λ shape. record { distinct = no-key shape.keys; not_over = omega arith });
       numbers =
           record {
-            rows = all-made (All (λ (r : Numbered). r.number ≤ 4611686018427387904)) schema.tables [] (All-nil (λ (r : Numbered). r.number ≤ 4611686018427387904));
+            rows =
+                all-made (All (λ (r : Numbered). r.number ≤ 4611686018427387904)) schema.tables [] (All-nil (λ (r : Numbered). r.number ≤ 4611686018427387904));
             sequences = all-made (λ (n : ℤ). n ≤ℤ pos 4611686018427387904) schema.sequences (pos 1) (omega (arith, ints));
           };
     }
@@ -66,11 +68,13 @@ keeps-empty schema under_way =
     let sound = empty-sound schema in
     record { saved = sound.fits; current = sound.fits; commits = sound.commits; at_rest = λ _. refl }
 
-pub keeps-made : (schema kept : Schema) (under_way : Bool) (made : Both) → kept ≡ schema → made ≡ both_of (empty_tables schema) (empty_tables schema) → IsKeeping (Some kept) under_way made
+pub keeps-made : (schema kept : Schema) (under_way : Bool) (made : Both) → kept ≡ schema → made ≡ both_of (empty_tables schema) (empty_tables schema)
+    → IsKeeping (Some kept) under_way made
 keeps-made schema kept under_way made k m =
     subst (λ s. IsKeeping (Some s) under_way made) (sym k) (subst (λ h. IsKeeping (Some schema) under_way h) (sym m) (keeps-empty schema under_way))
 
-pub made-empty : (schema : Schema) (tables : List Rows) (sequences : List Sequence) → tables ≡ map (λ _. no_rows) schema.tables → sequences ≡ map (λ _. first_draw) schema.sequences
+pub made-empty : (schema : Schema) (tables : List Rows) (sequences : List Sequence) → tables ≡ map (λ _. no_rows) schema.tables
+    → sequences ≡ map (λ _. first_draw) schema.sequences
     → held tables sequences ≡ both_of (empty_tables schema) (empty_tables schema)
 made-empty schema tables sequences t q =
     let saved = ap₂ tables_of (map-after (λ (t : Rows). t.saved) (λ (_ : TableShape). no_rows) schema.tables) (map-after (λ (s : Sequence). s.saved) (λ (_ : List ℕ). first_draw) schema.sequences) in
@@ -88,14 +92,16 @@ LowRows t = All (λ r. r.number ≤ 4611686018427387904) t.saved
 abbrev LowSequence : Sequence → Type 0
 LowSequence s = s.saved ≤ℤ pos 4611686018427387904
 
-low-here : (tables : List Rows) (sequences : List Sequence) → All LowRows tables → All LowSequence sequences → NumbersUpTo 4611686018427387904 (held tables sequences).saved
+low-here : (tables : List Rows) (sequences : List Sequence) → All LowRows tables → All LowSequence sequences
+    → NumbersUpTo 4611686018427387904 (held tables sequences).saved
 low-here tables sequences t q =
     record {
       rows = All-map (All (λ (r : Numbered). r.number ≤ 4611686018427387904)) (λ (t : Rows). t.saved) tables t;
       sequences = All-map (λ (n : ℤ). n ≤ℤ pos 4611686018427387904) (λ (s : Sequence). s.saved) sequences q;
     }
 
-pub low-numbers : (tables : List Rows) (sequences : List Sequence) (old : Both) (a b : Bool) → held tables sequences ≡ old → (IsTrue a ↔ All LowRows tables) → (IsTrue b ↔ All LowSequence sequences) → a ≡ true
+pub low-numbers : (tables : List Rows) (sequences : List Sequence) (old : Both) (a b : Bool) → held tables sequences ≡ old → (IsTrue a ↔ All LowRows tables)
+    → (IsTrue b ↔ All LowSequence sequences) → a ≡ true
     → IsTrue b ↔ NumbersUpTo 4611686018427387904 old.saved
 low-numbers tables sequences old a b v t q e =
     let there : IsTrue b ↔ NumbersUpTo 4611686018427387904 (held tables sequences).saved = (
@@ -104,7 +110,8 @@ low-numbers tables sequences old a b v t q e =
     ) in
     subst (λ (o : Both). IsTrue b ↔ NumbersUpTo 4611686018427387904 o.saved) v there
 
-pub high-numbers : (tables : List Rows) (sequences : List Sequence) (old : Both) (a : Bool) → held tables sequences ≡ old → (IsTrue a ↔ All LowRows tables) → a ≡ false → IsTrue a ↔ NumbersUpTo 4611686018427387904 old.saved
+pub high-numbers : (tables : List Rows) (sequences : List Sequence) (old : Both) (a : Bool) → held tables sequences ≡ old → (IsTrue a ↔ All LowRows tables)
+    → a ≡ false → IsTrue a ↔ NumbersUpTo 4611686018427387904 old.saved
 high-numbers tables sequences old a v t e =
     let there : IsTrue a ↔ NumbersUpTo 4611686018427387904 (held tables sequences).saved = (
       λ low. absurd (both_ways a e low),

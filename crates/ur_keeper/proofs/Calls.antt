@@ -35,11 +35,13 @@ module _ (kept old : Option Schema) (same : kept ≡ old) where
           at_rest = λ r. cc;
         }
 
-    pub keeps-inserted : (n : ℕ) (row : Row) → new ≡ both_of held.saved (inserted n row held.current) → HasTable (kept_of old) n → IsRowOf (kept_of old) n row → IsKeeping kept under_way new
+    pub keeps-inserted : (n : ℕ) (row : Row) → new ≡ both_of held.saved (inserted n row held.current) → HasTable (kept_of old) n → IsRowOf (kept_of old) n row
+        → IsKeeping kept under_way new
     keeps-inserted n row e i r =
         keeps (inserted n row held.current) e (inserted-kept kept held.current n row k.current (subst (λ k. HasTable (kept_of k) n) (sym same) i) (subst (λ k. IsRowOf (kept_of k) n row) (sym same) r))
 
-    pub keeps-replaced : (n number : ℕ) (row : Row) → new ≡ both_of held.saved (replaced n number row held.current) → HasTable (kept_of old) n → IsRowOf (kept_of old) n row → IsKeeping kept under_way new
+    pub keeps-replaced : (n number : ℕ) (row : Row) → new ≡ both_of held.saved (replaced n number row held.current) → HasTable (kept_of old) n
+        → IsRowOf (kept_of old) n row → IsKeeping kept under_way new
     keeps-replaced n number row e i r =
         keeps (replaced n number row held.current) e (replaced-kept kept held.current n number row k.current (subst (λ k. HasTable (kept_of k) n) (sym same) i) (subst (λ k. IsRowOf (kept_of k) n row) (sym same) r))
 

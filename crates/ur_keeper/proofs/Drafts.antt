@@ -1,5 +1,6 @@
 -- Rows with marks on those that are gone.
-use Rattle.std.proofs.Common.{◌≡◌, ℕ, zero, suc, ◌+◌, ◌-◌, ◌<◌, ◌≤◌, Bool, true, false, ◌||◌, ◌==◌, List, [], ◌∷◌, ◌++◌, length, get_or, set, take, drop, refl, ap, ap₂, sym, subst, ◌∙◌, arith, length-set, slice_index, IsTrue}
+use Rattle.std.proofs.Common.{◌≡◌, ℕ, zero, suc, ◌+◌, ◌-◌, ◌<◌, ◌≤◌, Bool, true, false, ◌||◌, ◌==◌, List, [], ◌∷◌, ◌++◌, length, get_or, set, take}
+use Rattle.std.proofs.Common.{drop, refl, ap, ap₂, sym, subst, ◌∙◌, arith, length-set, slice_index, IsTrue}
 use Rattle.std.proofs.lemmas.Bool.Decides.{nat_tests}
 use Rattle.ur_values.specs.declared.schema.Numbered.{Numbered}
 use Rattle.ur_values.specs.Store.{Row}
@@ -49,7 +50,8 @@ left-there (r ∷ rows) (false ∷ gone) (suc i) x w e g = ap (λ rest. r ∷ re
 
 -- ---- two places swapped
 
-front-swapped : (ys : List Numbered) (k i : ℕ) (x y : Numbered) → k ≤ i → i < length ys → (k ≡ i → y ≡ x) → take (suc k) (set (set ys k x) i y) ≡ take k ys ++ x ∷ []
+front-swapped : (ys : List Numbered) (k i : ℕ) (x y : Numbered) → k ≤ i → i < length ys → (k ≡ i → y ≡ x)
+    → take (suc k) (set (set ys k x) i y) ≡ take k ys ++ x ∷ []
 front-swapped [] k i x y b w e = absurd (omega arith)
 front-swapped (z ∷ ys) zero zero x y b w e = ap (λ r. r ∷ []) (e refl)
 front-swapped (z ∷ ys) zero (suc i) x y b w e = refl
@@ -95,7 +97,8 @@ drop-next ys rows i e = sym (drop-tail ys i) ∙ ap (drop 1) e ∙ drop-tail row
     drop-tail (x ∷ xs) zero = refl
     drop-tail (x ∷ xs) (suc i) = drop-tail xs i
 
-closes-gone : (rows : List Numbered) (gone : List Bool) (ys : List Numbered) (k i : ℕ) → Closes rows gone ys k i → get_or gone i false ≡ true → Closes rows gone ys k (i + 1)
+closes-gone : (rows : List Numbered) (gone : List Bool) (ys : List Numbered) (k i : ℕ) → Closes rows gone ys k i → get_or gone i false ≡ true
+    → Closes rows gone ys k (i + 1)
 closes-gone rows gone ys k i h g =
     let next : suc i ≡ i + 1 = omega arith in
     subst (λ n. Closes rows gone ys k n) next record {
@@ -105,7 +108,8 @@ closes-gone rows gone ys k i h g =
       long = h.long;
     }
 
-closes-there : (rows : List Numbered) (gone : List Bool) (ys zs : List Numbered) (k i : ℕ) (x y : Numbered) → Closes rows gone ys k i → i < length ys → get_or gone i false ≡ false → x ≡ get_or ys i x → y ≡ get_or ys k y
+closes-there : (rows : List Numbered) (gone : List Bool) (ys zs : List Numbered) (k i : ℕ) (x y : Numbered) → Closes rows gone ys k i → i < length ys
+    → get_or gone i false ≡ false → x ≡ get_or ys i x → y ≡ get_or ys k y
     → length zs ≡ length ys → zs ≡ set (set ys k x) i y → Closes rows gone zs (k + 1) (i + 1)
 closes-there rows gone ys zs k i x y h w g xs yk l s =
     let next : suc i ≡ i + 1 = omega arith in
@@ -114,14 +118,16 @@ closes-there rows gone ys zs k i x y h w g xs yk l s =
     let old : x ≡ get_or rows i x = xs ∙ sym (get-drop ys i x) ∙ ap (λ r. get_or r 0 x) h.rest ∙ get-drop rows i x in
     let here : Closes rows gone zs (suc k) (suc i) =
     record {
-      front = ap (take (suc k)) s ∙ front-swapped ys k i x y h.behind w same ∙ ap (λ f. f ++ x ∷ []) h.front ∙ sym (left-there rows gone i x (omega (arith, h.long)) old g);
+      front =
+          ap (take (suc k)) s ∙ front-swapped ys k i x y h.behind w same ∙ ap (λ f. f ++ x ∷ []) h.front ∙ sym (left-there rows gone i x (omega (arith, h.long)) old g);
       rest = ap (drop (suc i)) s ∙ rest-swapped ys k i x y h.behind ∙ drop-next ys rows i h.rest;
       behind = omega (arith, h.behind);
       long = l ∙ h.long;
     } in
     subst (λ n. Closes rows gone zs n (i + 1)) next' (subst (λ n. Closes rows gone zs (suc k) n) next here)
 
-pub closes-swapped : (rows : List Numbered) (gone : List Bool) (ys zs out : List Numbered) (k kept i : ℕ) → Closes rows gone ys k i → i < length ys → get_or gone i false ≡ false
+pub closes-swapped : (rows : List Numbered) (gone : List Bool) (ys zs out : List Numbered) (k kept i : ℕ) → Closes rows gone ys k i → i < length ys
+    → get_or gone i false ≡ false
     → ((d : Numbered) → zs ≡ set (set ys k (get_or ys i d)) i (get_or ys k d)) → out ≡ zs → kept ≡ k + 1 → Closes rows gone out kept (i + 1)
 closes-swapped rows gone [] zs out k kept i h w g s o e = absurd (omega arith)
 closes-swapped rows gone (z ∷ ys) zs out k kept i h w g s o e =
@@ -132,19 +138,22 @@ closes-swapped rows gone (z ∷ ys) zs out k kept i h w g s o e =
     let here = closes-there rows gone all zs k i x y h w g (get-any all i z x w) (get-any all k z y (omega (arith, h.behind))) long (s z) in
     subst (λ n. Closes rows gone out n (i + 1)) (sym e) (subst (λ l. Closes rows gone l (k + 1) (i + 1)) (sym o) here)
 
-pub closes-kept : (rows : List Numbered) (gone : List Bool) (ys out : List Numbered) (k kept i : ℕ) → Closes rows gone ys k i → get_or gone i false ≡ true → out ≡ ys → kept ≡ k → Closes rows gone out kept (i + 1)
+pub closes-kept : (rows : List Numbered) (gone : List Bool) (ys out : List Numbered) (k kept i : ℕ) → Closes rows gone ys k i → get_or gone i false ≡ true
+    → out ≡ ys → kept ≡ k → Closes rows gone out kept (i + 1)
 closes-kept rows gone ys out k kept i h g o e =
     subst (λ n. Closes rows gone out n (i + 1)) (sym e) (subst (λ l. Closes rows gone l k (i + 1)) (sym o) (closes-gone rows gone ys k i h g))
 
 -- ---- a copy of what is left
 
-pub copied-there : (rows : List Numbered) (gone : List Bool) (i : ℕ) (x y : Numbered) (copied out : List Numbered) → i < length rows → x ≡ get_or rows i x → get_or gone i false ≡ false → copied ≡ left (take i rows) gone
+pub copied-there : (rows : List Numbered) (gone : List Bool) (i : ℕ) (x y : Numbered) (copied out : List Numbered) → i < length rows → x ≡ get_or rows i x
+    → get_or gone i false ≡ false → copied ≡ left (take i rows) gone
     → out ≡ copied ++ y ∷ [] → y ≡ x → out ≡ left (take (i + 1) rows) gone
 copied-there rows gone i x y copied out w e g h o s =
     let next : suc i ≡ i + 1 = omega arith in
     o ∙ ap₂ (λ (l : List Numbered) (r : Numbered). l ++ r ∷ []) h s ∙ sym (left-there rows gone i x w e g) ∙ ap (λ n. left (take n rows) gone) next
 
-pub copied-gone : (rows : List Numbered) (gone : List Bool) (i : ℕ) (copied out : List Numbered) → get_or gone i false ≡ true → copied ≡ left (take i rows) gone → out ≡ copied → out ≡ left (take (i + 1) rows) gone
+pub copied-gone : (rows : List Numbered) (gone : List Bool) (i : ℕ) (copied out : List Numbered) → get_or gone i false ≡ true → copied ≡ left (take i rows) gone
+    → out ≡ copied → out ≡ left (take (i + 1) rows) gone
 copied-gone rows gone i copied out g h o =
     let next : suc i ≡ i + 1 = omega arith in
     o ∙ h ∙ sym (left-gone rows gone i g) ∙ ap (λ n. left (take n rows) gone) next
@@ -162,7 +171,8 @@ above-here n [] i a h = absurd (omega arith)
 above-here n (r ∷ rows) zero a h = a.0
 above-here n (r ∷ rows) (suc i) a h = above-here n rows i a.1 (omega arith)
 
-drop-marked : (rows : List Numbered) (gone : List Bool) (i n : ℕ) → Rising rows → i < length rows → i < length gone → slice_index (numbers_of rows) i ≡ n → left rows (set gone i true) ≡ drop_row (left rows gone) n
+drop-marked : (rows : List Numbered) (gone : List Bool) (i n : ℕ) → Rising rows → i < length rows → i < length gone → slice_index (numbers_of rows) i ≡ n
+    → left rows (set gone i true) ≡ drop_row (left rows gone) n
 drop-marked [] gone i n s w v e = absurd (omega arith)
 drop-marked (r ∷ rows) [] i n s w v e = absurd (omega arith)
 drop-marked (r ∷ rows) (true ∷ gone) zero n s w v e = sym (drop-above n (left rows gone) (above-left n rows gone (subst (λ k. Above k rows) e s.0)))
@@ -175,7 +185,8 @@ drop-marked (r ∷ rows) (false ∷ gone) (suc i) n s w v e =
     let other : (r.number == n) ≡ false = grind (arith, nat_tests) in
     rw other (ap (λ rest. r ∷ rest) (drop-marked rows gone i n s.1 (omega arith) (omega arith) e))
 
-put-marked : (rows : List Numbered) (gone : List Bool) (i n : ℕ) (row : Row) → Rising rows → i < length rows → slice_index (numbers_of rows) i ≡ n → left (set rows i (record { number = n; row = row })) gone ≡ put_row (left rows gone) n row
+put-marked : (rows : List Numbered) (gone : List Bool) (i n : ℕ) (row : Row) → Rising rows → i < length rows → slice_index (numbers_of rows) i ≡ n
+    → left (set rows i (record { number = n; row = row })) gone ≡ put_row (left rows gone) n row
 put-marked [] gone i n row s w e = absurd (omega arith)
 put-marked (r ∷ rows) [] i n row s w e = left-none (set (r ∷ rows) i (record { number = n; row = row })) ∙ put-at (r ∷ rows) i n row s w e
 put-marked (r ∷ rows) (true ∷ gone) zero n row s w e = sym (put-above n row (left rows gone) (above-left n rows gone (subst (λ k. Above k rows) e s.0)))
@@ -188,7 +199,8 @@ put-marked (r ∷ rows) (false ∷ gone) (suc i) n row s w e =
     let other : (r.number == n) ≡ false = grind (arith, nat_tests) in
     rw other (ap (λ rest. r ∷ rest) (put-marked rows gone i n row s.1 (omega arith) e))
 
-pub row-marked : (rows : List Numbered) (gone : List Bool) (i n : ℕ) → HaveRisingNumbers rows → i < length rows → i < length gone → slice_index (numbers_of rows) i ≡ n → left rows (set gone i true) ≡ drop_row (left rows gone) n
+pub row-marked : (rows : List Numbered) (gone : List Bool) (i n : ℕ) → HaveRisingNumbers rows → i < length rows → i < length gone
+    → slice_index (numbers_of rows) i ≡ n → left rows (set gone i true) ≡ drop_row (left rows gone) n
 row-marked rows gone i n h w v e = drop-marked rows gone i n (rising rows h) w v e
 
 -- a number that is left is there
@@ -202,7 +214,8 @@ left-has (r ∷ rows) (true ∷ gone) n h = or-right (r.number == n) (has_number
     or-right false b h = h
 left-has (r ∷ rows) (false ∷ gone) n h = go (r.number == n) (left-has rows gone n) h
   where
-    go : (b : Bool) → (IsTrue (has_number (left rows gone) n) → IsTrue (has_number rows n)) → IsTrue (b || has_number (left rows gone) n) → IsTrue (b || has_number rows n)
+    go : (b : Bool) → (IsTrue (has_number (left rows gone) n) → IsTrue (has_number rows n)) → IsTrue (b || has_number (left rows gone) n)
+        → IsTrue (b || has_number rows n)
     go true f h = refl
     go false f h = f h
 
@@ -246,7 +259,8 @@ pub take-rises : (n : ℕ) (rows : List Numbered) → HaveRisingNumbers rows →
 take-rises n rows h = rises (take n rows) (rising-take n rows (rising rows h))
 
 -- without the last row, which is gone
-pub left-cut : (rows : List Numbered) (gone : List Bool) → length gone ≤ length rows → get_or gone (length rows - 1) false ≡ true → left (take (length rows - 1) rows) (take (length rows - 1) gone) ≡ left rows gone
+pub left-cut : (rows : List Numbered) (gone : List Bool) → length gone ≤ length rows → get_or gone (length rows - 1) false ≡ true
+    → left (take (length rows - 1) rows) (take (length rows - 1) gone) ≡ left rows gone
 left-cut rows gone m g =
     let within : length rows - 1 < length gone = gone-within gone (length rows - 1) g in
     let whole : suc (length rows - 1) ≡ length rows = omega arith in
@@ -259,7 +273,8 @@ pub record ClosesEnd (all : List Numbered) (marks : List Bool) (rows : List Numb
   pub rises : HaveRisingNumbers rows
   pub marked : length gone ≤ length rows
 
-pub end-first : (rows : List Numbered) (gone cut : List Bool) (n : ℕ) → n ≡ length rows → cut ≡ take n gone → HaveRisingNumbers rows → ClosesEnd rows gone rows cut
+pub end-first : (rows : List Numbered) (gone cut : List Bool) (n : ℕ) → n ≡ length rows → cut ≡ take n gone → HaveRisingNumbers rows
+    → ClosesEnd rows gone rows cut
 end-first rows gone cut n l e h =
     let whole : cut ≡ take (length rows) gone = e ∙ ap (λ k. take k gone) l in
     record {
@@ -268,7 +283,8 @@ end-first rows gone cut n l e h =
       marked = omega (arith, ap length whole, length-take (length rows) gone);
     }
 
-pub end-next : (all : List Numbered) (marks : List Bool) (rows : List Numbered) (gone : List Bool) (rows' : List Numbered) (gone' : List Bool) (m n : ℕ) → ClosesEnd all marks rows gone → get_or gone (length rows - 1) false ≡ true
+pub end-next : (all : List Numbered) (marks : List Bool) (rows : List Numbered) (gone : List Bool) (rows' : List Numbered) (gone' : List Bool) (m n : ℕ)
+    → ClosesEnd all marks rows gone → get_or gone (length rows - 1) false ≡ true
     → m ≡ length rows - 1 → rows' ≡ take m rows → n ≡ length rows' → gone' ≡ take n gone → ClosesEnd all marks rows' gone'
 end-next all marks rows gone rows' gone' m n h g ml r nl e =
     let cut : rows' ≡ take (length rows - 1) rows = r ∙ ap (λ k. take k rows) ml in
@@ -299,7 +315,8 @@ rising-left (r ∷ rows) (true ∷ gone) s = rising-left rows gone s.1
 rising-left (r ∷ rows) (false ∷ gone) s = (above-left r.number rows gone s.0, rising-left rows gone s.1)
 
 -- where the last row is left, the next number is the same
-pub next-left : (rows : List Numbered) (gone : List Bool) → Rising rows → get_or gone (length rows - 1) false ≡ false → next_number (left rows gone) ≡ next_number rows
+pub next-left : (rows : List Numbered) (gone : List Bool) → Rising rows → get_or gone (length rows - 1) false ≡ false
+    → next_number (left rows gone) ≡ next_number rows
 next-left [] gone s g = refl
 next-left (r ∷ rows) gone s g =
     let all = r ∷ rows in
@@ -318,33 +335,38 @@ next-left (r ∷ rows) gone s g =
 pub left-of : (rows now : List Numbered) (gone : List Bool) → rows ≡ now → gone ≡ [] → left rows gone ≡ now
 left-of rows now gone r g = ap₂ left r g ∙ left-none now
 
-pub row-added : (now rows seen ys : List Numbered) (gone : List Bool) (number : ℕ) (row : Row) → left rows gone ≡ now → seen ≡ rows → HaveRisingNumbers rows → length gone ≤ length rows → get_or gone (length rows - 1) false ≡ false
+pub row-added : (now rows seen ys : List Numbered) (gone : List Bool) (number : ℕ) (row : Row) → left rows gone ≡ now → seen ≡ rows → HaveRisingNumbers rows
+    → length gone ≤ length rows → get_or gone (length rows - 1) false ≡ false
     → number ≡ next_number seen → ys ≡ rows ++ record { number = number; row = row } ∷ [] → left ys gone ≡ add_row now row
 row-added now rows seen ys gone number row v s h m l n e =
     let last : List Numbered → ℕ → List Numbered = λ rs k. rs ++ record { number = k; row = row } ∷ [] in
     let next : number ≡ next_number now = n ∙ ap next_number s ∙ sym (next-left rows gone (rising rows h) l) ∙ ap next_number v in
     ap (λ xs. left xs gone) e ∙ left-push rows gone (record { number = number; row = row }) m ∙ ap₂ last v next
 
-pub push-rises : (rows seen ys : List Numbered) (number : ℕ) (row : Row) → seen ≡ rows → HaveRisingNumbers rows → number ≡ next_number seen → ys ≡ rows ++ record { number = number; row = row } ∷ [] → HaveRisingNumbers ys
+pub push-rises : (rows seen ys : List Numbered) (number : ℕ) (row : Row) → seen ≡ rows → HaveRisingNumbers rows → number ≡ next_number seen
+    → ys ≡ rows ++ record { number = number; row = row } ∷ [] → HaveRisingNumbers ys
 push-rises rows seen ys number row s h n e =
     let last : ℕ → List Numbered = λ k. rows ++ record { number = k; row = row } ∷ [] in
     let added : ys ≡ add_row rows row = e ∙ ap last (n ∙ ap next_number s) in
     subst (λ xs. HaveRisingNumbers xs) (sym added) (rises-added rows row h)
 
-pub row-put : (now rows seen : List Numbered) (gone : List Bool) (at n : ℕ) (row : Row) → left rows gone ≡ now → seen ≡ rows → HaveRisingNumbers rows → at < length seen → slice_index (numbers_of seen) at ≡ n
+pub row-put : (now rows seen : List Numbered) (gone : List Bool) (at n : ℕ) (row : Row) → left rows gone ≡ now → seen ≡ rows → HaveRisingNumbers rows
+    → at < length seen → slice_index (numbers_of seen) at ≡ n
     → left (set rows at (record { number = n; row = row })) gone ≡ put_row now n row
 row-put now rows seen gone at n row v s h w f =
     let within : at < length rows = subst (λ xs. at < length xs) s w in
     let found : slice_index (numbers_of rows) at ≡ n = subst (λ xs. slice_index (numbers_of xs) at ≡ n) s f in
     put-marked rows gone at n row (rising rows h) within found ∙ ap (λ xs. put_row xs n row) v
 
-pub set-rises : (rows seen : List Numbered) (at n : ℕ) (row : Row) → seen ≡ rows → HaveRisingNumbers rows → at < length seen → slice_index (numbers_of seen) at ≡ n → HaveRisingNumbers (set rows at (record { number = n; row = row }))
+pub set-rises : (rows seen : List Numbered) (at n : ℕ) (row : Row) → seen ≡ rows → HaveRisingNumbers rows → at < length seen
+    → slice_index (numbers_of seen) at ≡ n → HaveRisingNumbers (set rows at (record { number = n; row = row }))
 set-rises rows seen at n row s h w f =
     let within : at < length rows = subst (λ xs. at < length xs) s w in
     let found : slice_index (numbers_of rows) at ≡ n = subst (λ xs. slice_index (numbers_of xs) at ≡ n) s f in
     subst (λ xs. IsStrictlyIncreasing xs) (sym (ap numbers_of (put-at rows at n row (rising rows h) within found) ∙ numbers-put rows n row)) h
 
-pub row-removed : (now rows seen : List Numbered) (gone marked : List Bool) (at n : ℕ) → left rows gone ≡ now → left rows marked ≡ left rows gone → seen ≡ rows → HaveRisingNumbers rows → at < length seen → length seen ≤ length marked
+pub row-removed : (now rows seen : List Numbered) (gone marked : List Bool) (at n : ℕ) → left rows gone ≡ now → left rows marked ≡ left rows gone → seen ≡ rows
+    → HaveRisingNumbers rows → at < length seen → length seen ≤ length marked
     → slice_index (numbers_of seen) at ≡ n → left rows (set marked at true) ≡ drop_row now n
 row-removed now rows seen gone marked at n v m s h w l f =
     let within : at < length rows = subst (λ xs. at < length xs) s w in

@@ -35,7 +35,8 @@ module _ (tables : List Rows) (sequences : List Sequence) (n : ℕ) (x new : Row
       ap₂ (λ (s c : List (List Numbered)). both_of (tables_of s (map (λ (s : Sequence). s.saved) sequences)) (tables_of c (map (λ (s : Sequence). s.current) sequences)))
       (map-set_same (λ (t : Rows). t.saved) tables n new x same) after
 
-  pub changed : {E : Type 0} (r : Result (Unit {0}) E) (old : Both) → held tables sequences ≡ old → n < length old.current.tables → x ≡ get_or tables n x → OnOk r (new ≡ versions x.saved (f x.current))
+  pub changed : {E : Type 0} (r : Result (Unit {0}) E) (old : Both) → held tables sequences ≡ old → n < length old.current.tables → x ≡ get_or tables n x
+      → OnOk r (new ≡ versions x.saved (f x.current))
       → OnOk r (held (set tables n new) sequences ≡ both_of old.saved (with_table n f old.current))
   changed (Ok u) old v w e g =
       let here = changed-here (subst (λ (o : Both). n < length o.current.tables) (sym v) w) e g in
@@ -60,10 +61,13 @@ module _ (tables : List Rows) (sequences : List Sequence) (n : ℕ) (x : Sequenc
       ap₂ (λ (s c : List ℤ). both_of (tables_of (map (λ (t : Rows). t.saved) tables) s) (tables_of (map (λ (t : Rows). t.current) tables) c))
       (map-set_same (λ (s : Sequence). s.saved) sequences n new x same) after
 
-  pub number-of : (old : Both) → held tables sequences ≡ old → n < length old.current.sequences → x ≡ get_or sequences n x → x.current ≡ sequence_at old.current n
-  number-of old v w e = subst (λ (o : Both). x.current ≡ sequence_at o.current n) v (number-here (subst (λ (o : Both). n < length o.current.sequences) (sym v) w) e)
+  pub number-of : (old : Both) → held tables sequences ≡ old → n < length old.current.sequences → x ≡ get_or sequences n x
+      → x.current ≡ sequence_at old.current n
+  number-of old v w e =
+      subst (λ (o : Both). x.current ≡ sequence_at o.current n) v (number-here (subst (λ (o : Both). n < length o.current.sequences) (sym v) w) e)
 
-  pub drawn-in : (new : Sequence) (old : Both) → held tables sequences ≡ old → n < length old.current.sequences → x ≡ get_or sequences n x → new ≡ drawn_sequence x
+  pub drawn-in : (new : Sequence) (old : Both) → held tables sequences ≡ old → n < length old.current.sequences → x ≡ get_or sequences n x
+      → new ≡ drawn_sequence x
       → held tables (set sequences n new) ≡ both_of old.saved (drawn n old.current)
   drawn-in new old v w e g =
       subst (λ (o : Both). held tables (set sequences n new) ≡ both_of o.saved (drawn n o.current)) v (drawn-here new (subst (λ (o : Both). n < length o.current.sequences) (sym v) w) e g)
@@ -74,14 +78,16 @@ pub map-after : {A B C : Type 0} (f : B → C) (g : A → B) (xs : List A) → m
 map-after f g [] = refl
 map-after f g (x ∷ xs) = ap (λ rest. f (g x) ∷ rest) (map-after f g xs)
 
-pub all-committed : (old : Both) (tables after : List Rows) (sequences after' : List Sequence) → held tables sequences ≡ old → after ≡ map committed tables → after' ≡ map committed_sequence sequences
+pub all-committed : (old : Both) (tables after : List Rows) (sequences after' : List Sequence) → held tables sequences ≡ old → after ≡ map committed tables
+    → after' ≡ map committed_sequence sequences
     → held after after' ≡ both_of old.current old.current
 all-committed old tables after sequences after' v t q =
     let saved = ap₂ tables_of (map-after (λ (t : Rows). t.saved) committed tables) (map-after (λ (s : Sequence). s.saved) committed_sequence sequences) in
     let current = ap₂ tables_of (map-after (λ (t : Rows). t.current) committed tables) (map-after (λ (s : Sequence). s.current) committed_sequence sequences) in
     ap₂ held t q ∙ ap₂ both_of saved current ∙ ap (λ (o : Both). both_of o.current o.current) v
 
-pub all-rolled_back : (old : Both) (tables after : List Rows) (sequences after' : List Sequence) → held tables sequences ≡ old → after ≡ map rolled_back tables → after' ≡ map rolled_back_sequence sequences
+pub all-rolled_back : (old : Both) (tables after : List Rows) (sequences after' : List Sequence) → held tables sequences ≡ old → after ≡ map rolled_back tables
+    → after' ≡ map rolled_back_sequence sequences
     → held after after' ≡ both_of old.saved old.saved
 all-rolled_back old tables after sequences after' v t q =
     let saved = ap₂ tables_of (map-after (λ (t : Rows). t.saved) rolled_back tables) (map-after (λ (s : Sequence). s.saved) rolled_back_sequence sequences) in

@@ -1,5 +1,6 @@
 -- What a change keeps of tables and sequences of a schema.
-use Rattle.std.proofs.Common.{◌≡◌, ℕ, pos, ◌+ℤ◌, ◌≤ℤ◌, zero, suc, ◌+◌, ◌<◌, ◌≤◌, max, Bool, true, false, not, ◌==◌, cond, List, [], ◌∷◌, length, map, filter, fold, get_or, set, Option, Some, None, IfSome, slice_get, All, refl, ap, ap₂, sym, subst, arith}
+use Rattle.std.proofs.Common.{◌≡◌, ℕ, pos, ◌+ℤ◌, ◌≤ℤ◌, zero, suc, ◌+◌, ◌<◌, ◌≤◌, max, Bool, true, false, not, ◌==◌, cond, List, [], ◌∷◌, length, map}
+use Rattle.std.proofs.Common.{filter, fold, get_or, set, Option, Some, None, IfSome, slice_get, All, refl, ap, ap₂, sym, subst, arith}
 use Rattle.std.specs.List.{AllZip}
 use Rattle.std.specs.List.Sorted.{IsStrictlyIncreasing}
 use Rattle.std.proofs.lemmas.Int.{ints}
@@ -21,13 +22,15 @@ use Rattle.ur_keeper.specs.Memory.{kept_of, AreKept}
 
 -- ---- two lists, place by place
 
-pub zip-at : {A B : Type 0} (R : A → B → Type 0) (xs : List A) (ys : List B) (n : ℕ) (d : B) → AllZip R xs ys → IfSome (slice_get xs n) (λ x. R x (get_or ys n d))
+pub zip-at : {A B : Type 0} (R : A → B → Type 0) (xs : List A) (ys : List B) (n : ℕ) (d : B) → AllZip R xs ys
+    → IfSome (slice_get xs n) (λ x. R x (get_or ys n d))
 zip-at R [] ys n d h = tt
 zip-at R (x ∷ xs) [] n d h = absurd h
 zip-at R (x ∷ xs) (y ∷ ys) zero d h = h.0
 zip-at R (x ∷ xs) (y ∷ ys) (suc n) d h = zip-at R xs ys n d h.1
 
-pub zip-set : {A B : Type 0} (R : A → B → Type 0) (xs : List A) (ys : List B) (n : ℕ) (y : B) → AllZip R xs ys → IfSome (slice_get xs n) (λ x. R x y) → AllZip R xs (set ys n y)
+pub zip-set : {A B : Type 0} (R : A → B → Type 0) (xs : List A) (ys : List B) (n : ℕ) (y : B) → AllZip R xs ys → IfSome (slice_get xs n) (λ x. R x y)
+    → AllZip R xs (set ys n y)
 zip-set R [] [] n y h r = h
 zip-set R [] (z ∷ ys) n y h r = absurd h
 zip-set R (x ∷ xs) [] n y h r = absurd h
@@ -71,7 +74,8 @@ numbers-dropped (r ∷ rows) n = go (r.number == n) (numbers-dropped rows n)
     go true e = e
     go false e = ap (λ ks. r.number ∷ ks) e
 
-rows-added : (rows : List Numbered) (row : Row) → All IsStorable row → (shape : TableShape) → AreRowsOf shape rows → FitsShape shape row → AreRowsOf shape (add_row rows row)
+rows-added : (rows : List Numbered) (row : Row) → All IsStorable row → (shape : TableShape) → AreRowsOf shape rows → FitsShape shape row
+    → AreRowsOf shape (add_row rows row)
 rows-added rows row s shape h f =
     let new : Numbered = record { number = next_number rows; row = row } in
     record {
@@ -87,7 +91,8 @@ all-put P rows n row p h =
     All-map (λ (r : Numbered). P r.row) there rows
     (All-weaker (λ (r : Numbered). P r.row) (λ (r : Numbered). P (there r).row) (λ r q. cond_both (r.number == n) (record { number = n; row = row }) r (λ (x : Numbered). P x.row) (λ _. p) (λ _. q)) rows h)
 
-rows-put : (rows : List Numbered) (n : ℕ) (row : Row) → All IsStorable row → (shape : TableShape) → AreRowsOf shape rows → FitsShape shape row → AreRowsOf shape (put_row rows n row)
+rows-put : (rows : List Numbered) (n : ℕ) (row : Row) → All IsStorable row → (shape : TableShape) → AreRowsOf shape rows → FitsShape shape row
+    → AreRowsOf shape (put_row rows n row)
 rows-put rows n row s shape h f =
     record {
       shaped = all-put (λ r. FitsShape shape r) rows n row f h.shaped;
@@ -101,7 +106,8 @@ rows-dropped rows n shape h =
     record {
       shaped = All-filter stays (λ (r : Numbered). FitsShape shape r.row) rows h.shaped;
       sizes = All-filter stays (λ (r : Numbered). All IsStorable r.row) rows h.sizes;
-      numbers = subst (λ xs. IsStrictlyIncreasing xs) (sym (numbers-dropped rows n)) (IsStrictlyIncreasing-filter (λ k. not (k == n)) (numbers_of rows) h.numbers);
+      numbers =
+          subst (λ xs. IsStrictlyIncreasing xs) (sym (numbers-dropped rows n)) (IsStrictlyIncreasing-filter (λ k. not (k == n)) (numbers_of rows) h.numbers);
     }
 
 -- ---- tables of the kept schema
@@ -118,7 +124,8 @@ pub rows-at : (kept : Option Schema) (t : Tables) (n : ℕ) → AreKept kept t �
 rows-at None t n h = tt
 rows-at (Some schema) t n h = zip-at AreRowsOf schema.tables t.tables n [] h.tables
 
-numbers-at : (schema : Schema) (t : Tables) (n : ℕ) (o : Option TableShape) → o ≡ slice_get schema.tables n → IfSome o (λ shape. AreRowsOf shape (table_at t n)) → n < length schema.tables → HaveRisingNumbers (table_at t n)
+numbers-at : (schema : Schema) (t : Tables) (n : ℕ) (o : Option TableShape) → o ≡ slice_get schema.tables n → IfSome o (λ shape. AreRowsOf shape (table_at t n))
+    → n < length schema.tables → HaveRisingNumbers (table_at t n)
 numbers-at schema t n None e h i = absurd (none-within schema.tables n e i)
   where
     none-within : {A : Type 0} (xs : List A) (n : ℕ) → None ≡ slice_get xs n → n < length xs → ⊥
@@ -131,15 +138,18 @@ pub rises-at : (kept : Option Schema) (t : Tables) (n : ℕ) → AreKept kept t 
 rises-at None t n h i = absurd i
 rises-at (Some schema) t n h i = numbers-at schema t n (slice_get schema.tables n) refl (rows-at (Some schema) t n h) i
 
-with-kept : (schema : Schema) (t : Tables) (n : ℕ) (f : List Numbered → List Numbered) → AreTablesOf schema t → IfSome (slice_get schema.tables n) (λ shape. AreRowsOf shape (f (table_at t n))) → AreTablesOf schema (with_table n f t)
+with-kept : (schema : Schema) (t : Tables) (n : ℕ) (f : List Numbered → List Numbered) → AreTablesOf schema t
+    → IfSome (slice_get schema.tables n) (λ shape. AreRowsOf shape (f (table_at t n))) → AreTablesOf schema (with_table n f t)
 with-kept schema t n f h g = record { tables = zip-set AreRowsOf schema.tables t.tables n (f (table_at t n)) h.tables g; sequences = h.sequences }
 
-pub inserted-kept : (kept : Option Schema) (t : Tables) (n : ℕ) (row : Row) → AreKept kept t → HasTable (kept_of kept) n → IsRowOf (kept_of kept) n row → AreKept kept (inserted n row t)
+pub inserted-kept : (kept : Option Schema) (t : Tables) (n : ℕ) (row : Row) → AreKept kept t → HasTable (kept_of kept) n → IsRowOf (kept_of kept) n row
+    → AreKept kept (inserted n row t)
 inserted-kept None t n row h i r = absurd i
 inserted-kept (Some schema) t n row h i r =
     with-kept schema t n (λ rows. add_row rows row) h (if_both (λ shape. AreRowsOf shape (table_at t n)) (λ shape. FitsShape shape row) _ (slice_get schema.tables n) (rows-at (Some schema) t n h) r.shaped (rows-added (table_at t n) row r.sizes))
 
-pub replaced-kept : (kept : Option Schema) (t : Tables) (n number : ℕ) (row : Row) → AreKept kept t → HasTable (kept_of kept) n → IsRowOf (kept_of kept) n row → AreKept kept (replaced n number row t)
+pub replaced-kept : (kept : Option Schema) (t : Tables) (n number : ℕ) (row : Row) → AreKept kept t → HasTable (kept_of kept) n → IsRowOf (kept_of kept) n row
+    → AreKept kept (replaced n number row t)
 replaced-kept None t n number row h i r = absurd i
 replaced-kept (Some schema) t n number row h i r =
     with-kept schema t n (λ rows. put_row rows number row) h (if_both (λ shape. AreRowsOf shape (table_at t n)) (λ shape. FitsShape shape row) _ (slice_get schema.tables n) (rows-at (Some schema) t n h) r.shaped (rows-put (table_at t n) number row r.sizes))
@@ -157,5 +167,6 @@ drawn-kept (Some schema) t n h i =
     let rises : pos 1 ≤ℤ sequence_at t n → pos 1 ≤ℤ (sequence_at t n +ℤ pos 1) = λ low. omega (arith, ints) in
     record {
       tables = h.tables;
-      sequences = zip-set (λ name n. pos 1 ≤ℤ n) schema.sequences t.sequences n (sequence_at t n +ℤ pos 1) h.sequences (if_both (λ name. pos 1 ≤ℤ sequence_at t n) (λ name. pos 1 ≤ℤ sequence_at t n) _ (slice_get schema.sequences n) at at (λ name low _. rises low));
+      sequences =
+          zip-set (λ name n. pos 1 ≤ℤ n) schema.sequences t.sequences n (sequence_at t n +ℤ pos 1) h.sequences (if_both (λ name. pos 1 ≤ℤ sequence_at t n) (λ name. pos 1 ≤ℤ sequence_at t n) _ (slice_get schema.sequences n) at at (λ name low _. rises low));
     }

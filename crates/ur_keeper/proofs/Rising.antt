@@ -1,5 +1,6 @@
 -- Rows with rising numbers: what a number says of its place.
-use Rattle.std.proofs.Common.{◌≡◌, ℕ, zero, suc, ◌+◌, ◌-◌, ◌<◌, ◌≤◌, max, Bool, true, false, ◌||◌, ◌==◌, List, [], ◌∷◌, ◌++◌, length, map, fold, get_or, set, take, refl, ap, sym, subst, Some, ◌∙◌, arith, slice_index, IsTrue}
+use Rattle.std.proofs.Common.{◌≡◌, ℕ, zero, suc, ◌+◌, ◌-◌, ◌<◌, ◌≤◌, max, Bool, true, false, ◌||◌, ◌==◌, List, [], ◌∷◌, ◌++◌, length, map, fold}
+use Rattle.std.proofs.Common.{get_or, set, take, refl, ap, sym, subst, Some, ◌∙◌, arith, slice_index, IsTrue}
 use Rattle.std.proofs.Math.Seq.{take-length}
 use Rattle.std.specs.List.{remove, slice_get}
 use Rattle.std.proofs.lemmas.Option.{slice_get_within, get_or_from_slice_get}
@@ -50,7 +51,8 @@ above-at n [] i a h = absurd (omega arith)
 above-at n (r ∷ rows) zero a h = a.0
 above-at n (r ∷ rows) (suc i) a h = above-at n rows i a.1 (omega arith)
 
-pub put-at : (rows : List Numbered) (i n : ℕ) (row : Row) → Rising rows → i < length rows → slice_index (numbers_of rows) i ≡ n → set rows i (record { number = n; row = row }) ≡ put_row rows n row
+pub put-at : (rows : List Numbered) (i n : ℕ) (row : Row) → Rising rows → i < length rows → slice_index (numbers_of rows) i ≡ n
+    → set rows i (record { number = n; row = row }) ≡ put_row rows n row
 put-at [] i n row s h e = absurd (omega arith)
 put-at (r ∷ rows) zero n row s h e =
     let same : (r.number == n) ≡ true = grind (arith, nat_tests) in
@@ -83,7 +85,8 @@ fold-below : (n a : ℕ) (rows : List Numbered) → a ≤ n → Below n rows →
 fold-below n a [] h b = h
 fold-below n a (r ∷ rows) h b = fold-below n (max a (r.number + 1)) rows (omega arith) b.1
 
-fold-last : (a : ℕ) (rows : List Numbered) (last : Numbered) → a ≤ last.number + 1 → Below last.number rows → fold max a (map (λ (r : Numbered). r.number + 1) (rows ++ last ∷ [])) ≡ last.number + 1
+fold-last : (a : ℕ) (rows : List Numbered) (last : Numbered) → a ≤ last.number + 1 → Below last.number rows
+    → fold max a (map (λ (r : Numbered). r.number + 1) (rows ++ last ∷ [])) ≡ last.number + 1
 fold-last a [] last h b = omega arith
 fold-last a (r ∷ rows) last h b = fold-last (max a (r.number + 1)) rows last (omega arith) b.1
 
@@ -104,32 +107,37 @@ pub place-of : (rows : List Numbered) (n : ℕ) → IsTrue (has_number rows n) �
 place-of [] n h = cc
 place-of (r ∷ rows) n h = go (r.number == n) refl h (place-of rows n)
   where
-    go : (b : Bool) → (r.number == n) ≡ b → IsTrue (b || has_number rows n) → (IsTrue (has_number rows n) → (k : ℕ) × (k < length rows) × (slice_index (numbers_of rows) k ≡ n))
+    go : (b : Bool) → (r.number == n) ≡ b → IsTrue (b || has_number rows n)
+        → (IsTrue (has_number rows n) → (k : ℕ) × (k < length rows) × (slice_index (numbers_of rows) k ≡ n))
         → (k : ℕ) × (k < length (r ∷ rows)) × (slice_index (numbers_of (r ∷ rows)) k ≡ n)
     go true e t rec = (0, omega arith, grind (arith, nat_tests))
     go false e t rec = let p = rec t in (suc p.0, omega arith, p.2)
 
 -- ---- what the search for a number knows
 
-order : (rows : List Numbered) → HaveRisingNumbers rows → (i j : ℕ) → i ≤ j → j < length rows → slice_index (numbers_of rows) i ≤ slice_index (numbers_of rows) j
+order : (rows : List Numbered) → HaveRisingNumbers rows → (i j : ℕ) → i ≤ j → j < length rows
+    → slice_index (numbers_of rows) i ≤ slice_index (numbers_of rows) j
 order rows h i j k l =
     let below : i < j → slice_index (numbers_of rows) i < slice_index (numbers_of rows) j = λ m. AllPairs-from_increasing (numbers_of rows) h i j 0 m (simp length-map l) in
     let same : i ≡ j → slice_index (numbers_of rows) i ≡ slice_index (numbers_of rows) j = λ m. ap (slice_index (numbers_of rows)) m in
     grind arith
 
-pub between-first : (s rows : List Numbered) (n : ℕ) → s ≡ rows → IsTrue (has_number rows n) → (length s ≤ length s) × ((k : ℕ) × (0 ≤ k) × (k < length s) × (slice_index (numbers_of s) k ≡ n))
+pub between-first : (s rows : List Numbered) (n : ℕ) → s ≡ rows → IsTrue (has_number rows n)
+    → (length s ≤ length s) × ((k : ℕ) × (0 ≤ k) × (k < length s) × (slice_index (numbers_of s) k ≡ n))
 between-first s rows n e t =
     let p = place-of s n (subst (λ xs. IsTrue (has_number xs n)) (sym e) t) in
     (omega arith, (p.0, omega arith, p.1, p.2))
 
-pub goes-up : (s rows : List Numbered) → s ≡ rows → HaveRisingNumbers rows → (m k n : ℕ) (d : Numbered) → m < length s → (get_or s m d).number < n → slice_index (numbers_of s) k ≡ n → m + 1 ≤ k
+pub goes-up : (s rows : List Numbered) → s ≡ rows → HaveRisingNumbers rows → (m k n : ℕ) (d : Numbered) → m < length s → (get_or s m d).number < n
+    → slice_index (numbers_of s) k ≡ n → m + 1 ≤ k
 goes-up s rows e h m k n d l t f =
     let rises : HaveRisingNumbers s = subst (λ xs. HaveRisingNumbers xs) (sym e) h in
     let o : k ≤ m → slice_index (numbers_of s) k ≤ slice_index (numbers_of s) m = λ q. order s rises k m q l in
     let g : slice_index (numbers_of s) m ≡ (get_or s m d).number = get_or-map (λ (r : Numbered). r.number) s m d 0 l in
     grind arith
 
-pub goes-down : (s rows : List Numbered) → s ≡ rows → HaveRisingNumbers rows → (m k n : ℕ) (d : Numbered) → k < length s → m < length s → n ≤ (get_or s m d).number → ((get_or s m d).number ≡ n → ⊥) → slice_index (numbers_of s) k ≡ n → k < m
+pub goes-down : (s rows : List Numbered) → s ≡ rows → HaveRisingNumbers rows → (m k n : ℕ) (d : Numbered) → k < length s → m < length s
+    → n ≤ (get_or s m d).number → ((get_or s m d).number ≡ n → ⊥) → slice_index (numbers_of s) k ≡ n → k < m
 goes-down s rows e h m k n d kl l t u f =
     let rises : HaveRisingNumbers s = subst (λ xs. HaveRisingNumbers xs) (sym e) h in
     let o : m ≤ k → slice_index (numbers_of s) m ≤ slice_index (numbers_of s) k = λ q. order s rises m k q kl in
@@ -138,7 +146,8 @@ goes-down s rows e h m k n d kl l t u f =
 
 -- ---- one more number
 
-pub number-after : (s rows : List Numbered) (last : Numbered) → s ≡ rows → HaveRisingNumbers rows → slice_get s (length s - 1) ≡ Some last → last.number + 1 ≡ next_number rows
+pub number-after : (s rows : List Numbered) (last : Numbered) → s ≡ rows → HaveRisingNumbers rows → slice_get s (length s - 1) ≡ Some last
+    → last.number + 1 ≡ next_number rows
 number-after s rows last e h g =
     let within : length s - 1 < length s = slice_get_within s (length s - 1) last g in
     let here : get_or s (length s - 1) last ≡ last = get_or_from_slice_get s (length s - 1) last last g in

@@ -1,12 +1,14 @@
 -- What a keeper in memory holds, all of which it tells.
-use Rattle.std.specs.Prelude.{◌≡◌, ◌≢◌, ℕ, Bool, true, false, List, [], Option, Some, None, if◌then◌else◌, refl}
+use Rattle.std.specs.Prelude.{◌≡◌, ℕ, Bool, true, false, List, [], Option, Some, None, if◌then◌else◌, refl}
 use Rattle.std.specs.Coded.{Coded, code_by, coded×, coded_ℕ, coded_bool, coded_option}
 use Rattle.ur_base.specs.Counts.{next_count}
 use Rattle.ur_values.specs.declared.schema.Schema.{Schema}
 use Rattle.ur_values.specs.contracts.schema.Schema as schemas
+use Rattle.ur_values.specs.Extends.{extends}
 use Rattle.ur_keeper.specs.declared.keeper.Attached.{Attached}
 use Rattle.ur_keeper.specs.declared.keeper.Attached.TheVariants.{Ready, Differs}
 use Rattle.ur_keeper.specs.Tables.{Tables, KeptSchema, Empty, Keeps, AreTablesOf, AreSound, MayCommit, empty_tables}
+use Rattle.ur_keeper.specs.Growing.{grown_tables}
 use Rattle.ur_base.specs.FaultPlans.{PlanState, new_plan, after_ok, after_failed, plan_coded}
 use Rattle.ur_keeper.specs.Versions.{Both, tables_coded}
 
@@ -75,24 +77,32 @@ wanting m = record m { current = m.saved; under_way = false; plan = after_ok m.p
 
 -- ---- attach
 
--- an empty store has the schema, every other one is as it was
+-- an empty store has the schema; one whose schema the given one extends has the given one, and Absent in each new column; every other
+-- one is as it was
+abbrev pub grown_memory : Schema → Schema → Memory → Memory
+grown_memory schema kept m = record m { kept = Some schema; current = grown_tables schema kept m.saved; saved = grown_tables schema kept m.saved; plan = after_ok m.plan }
+
+abbrev pub grown_if : Bool → Schema → Schema → Memory → Memory
+grown_if true schema kept m = grown_memory schema kept m
+grown_if false schema kept m = passed m
+
 abbrev pub attached : Schema → Memory → Memory
 attached schema m = attached_to m.kept schema m
   where
     attached_to : Option Schema → Schema → Memory → Memory
     attached_to None schema m = record m { kept = Some schema; current = empty_tables schema; saved = empty_tables schema; plan = after_ok m.plan }
-    attached_to (Some kept) schema m = passed m
+    attached_to (Some kept) schema m = grown_if (extends schema kept) schema kept m
 
--- an empty store and one with an equal schema are ready, every other one answers the schema that it has
+-- an empty store and one whose schema the given one extends are ready, every other one answers the schema that it has
 abbrev pub AnswersTo : Schema → Option Schema → Attached → Type 0
 AnswersTo schema None Ready = Unit {0}
 AnswersTo schema None (Differs other) = ⊥
-AnswersTo schema (Some kept) Ready = kept ≡ schema
-AnswersTo schema (Some kept) (Differs other) = (other ≡ kept) × (kept ≢ schema)
+AnswersTo schema (Some kept) Ready = extends schema kept ≡ true
+AnswersTo schema (Some kept) (Differs other) = (other ≡ kept) × (extends schema kept ≡ false)
 
--- the store has an equal schema and a fault
+-- the given schema extends that of the store, which has a fault
 abbrev pub IsFaulty : Schema → Memory → Type 0
-IsFaulty schema m = (m.kept ≡ Some schema) × (AreSound schema m.saved → ⊥)
+IsFaulty schema m = (kept : Schema) × (m.kept ≡ Some kept) × (extends schema kept ≡ true) × (AreSound kept m.saved → ⊥)
 
 -- ---- what holds of a keeper's fields
 

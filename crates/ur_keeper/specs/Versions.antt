@@ -21,6 +21,10 @@ rows_code =
 abbrev pub no_rows : Rows
 no_rows = record { saved = []; current = [] }
 
+-- the same rows, saved and current
+abbrev pub settled : List Numbered → Rows
+settled rows = record { saved = rows; current = rows }
+
 -- after a commit, after a rollback
 abbrev pub committed : Rows → Rows
 committed r = record { saved = r.current; current = r.current }

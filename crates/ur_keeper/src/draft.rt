@@ -6,7 +6,7 @@ ghost use Rattle.ur_keeper.specs.Drafts.{left};
 
 use std::alloc::Global;
 use std::marker::Model;
-use ur_base::{List, Memory};
+use ur_base::{List, Memory, Shared};
 use ur_values::{Numbered, Row};
 
 /// Rows under change. A removed row is marked as gone and stands until the rows are saved or a row is added after it, so
@@ -62,7 +62,7 @@ impl Draft {
     }
 
     /// Adds a row last, with the next number.
-    pub(crate) fn insert(&mut self, row: Row) -> Result<(), Memory>
+    pub(crate) fn insert(&mut self, row: Shared<Row>) -> Result<(), Memory>
         requires rising { HaveRisingNumbers self.old }
         requires room { next_number self.old < 2 ^ 64 }
         ensures ok { OnOk result (self.new ≡ add_row self.old row) }
@@ -75,7 +75,7 @@ impl Draft {
     }
 
     /// Puts a row in the place of the one with this number. Takes no memory.
-    pub(crate) fn replace(&mut self, number: u64, row: Row)
+    pub(crate) fn replace(&mut self, number: u64, row: Shared<Row>)
         requires rising { HaveRisingNumbers self.old }
         requires there { IsTrue (has_number self.old number) }
         ensures { self.new ≡ put_row self.old number row }

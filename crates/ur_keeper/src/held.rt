@@ -1,10 +1,13 @@
 //! The tables and sequences of a keeper in memory.
 ghost use Rattle.std.specs.Prelude.{◌≡◌, ◌≤◌, ◌<◌, ◌^◌, ◌<ℤ◌, ◌≤ℤ◌, ◌↔◌, ℕ, pos, [], map, All, IsTrue, IfOk, OnOk, OnErr, length};
 ghost use Rattle.ur_values.specs.Numbered.{next_number, has_number, HaveRisingNumbers};
-ghost use Rattle.ur_keeper.specs.Tables.{table_at, sequence_at, inserted, replaced, removed, drawn, HasNextNumber, HasNextDraw, HasRowAt, NumbersUpTo, empty_tables};
-ghost use Rattle.ur_keeper.specs.Versions.{Both, no_rows, committed, rolled_back};
+ghost use Rattle.ur_keeper.specs.Tables.{table_at, sequence_at, inserted, replaced, removed, drawn, HasNextNumber, HasNextDraw, HasRowAt};
+ghost use Rattle.ur_keeper.specs.Tables.{NumbersUpTo, empty_tables};
+ghost use Rattle.ur_keeper.specs.Growing.{grown_all, grown_tables};
+ghost use Rattle.ur_keeper.specs.Versions.{Both, no_rows, settled, committed, rolled_back};
 ghost use Rattle.ur_keeper.specs.Sequences.{first_draw, committed_sequence, rolled_back_sequence};
 
+use crate::growing::grown_rows;
 use crate::sequence::Sequence;
 use crate::table::Table;
 use std::alloc::Global;
@@ -51,6 +54,23 @@ impl Held {
         Ok(Held {
             tables: made_tables(alloc, &schema.tables)?,
             sequences: made_sequences(alloc, &schema.sequences)?,
+        })
+    }
+
+    /// The saved rows, of the tables of a kept schema, under a schema that extends it, with Absent in each new column.
+    pub fn grown(&self, alloc: Global, schema: &Schema, kept: &Schema) -> Result<Held, Memory>
+        requires shapes { length schema.now.tables ≡ length kept.now.tables }
+        requires tables { length kept.now.tables ≡ length self.now.saved.tables }
+        ensures { IfOk result (λ grown. grown ≡ record { saved = grown_tables schema.now kept.now self.now.saved; current = grown_tables schema.now kept.now self.now.saved }) }
+    {
+        Ok(Held {
+            tables: grown_all(
+                alloc,
+                schema.tables.as_slice(),
+                kept.tables.as_slice(),
+                &self.tables,
+            )?,
+            sequences: saved_sequences(alloc, &self.sequences)?,
         })
     }
 
@@ -196,6 +216,43 @@ fn made_sequences(alloc: Global, names: &List<Text>) -> Result<Vec<Sequence>, Me
         })?;
     }
     Ok(sequences)
+}
+
+fn grown_all(
+    alloc: Global,
+    shapes: &[TableShape],
+    kept: &[TableShape],
+    tables: &Vec<Table>,
+) -> Result<Vec<Table>, Memory>
+    requires shapes { length shapes.now ≡ length kept.now }
+    requires tables { length kept.now ≡ length tables.now.items }
+    ensures { IfOk result (λ all. all.items ≡ map settled (grown_all shapes.now kept.now (map (λ t. t.saved) tables.now.items))) }
+{
+    let mut all = Vec::new(alloc);
+    for i in 0..shapes.len() {
+        let columns = shapes[i].columns.as_slice();
+        let rows = grown_rows(
+            alloc,
+            columns,
+            kept[i].columns.as_slice(),
+            tables[i].saved_rows(),
+        )?;
+        all.push(Table::of(rows))?;
+    }
+    Ok(all)
+}
+
+fn saved_sequences(alloc: Global, sequences: &Vec<Sequence>) -> Result<Vec<Sequence>, Memory>
+    ensures { IfOk result (λ all. all.items ≡ map rolled_back_sequence sequences.now.items) }
+{
+    let mut all = Vec::new(alloc);
+    for sequence in sequences.as_slice() {
+        all.push(Sequence {
+            saved: sequence.saved,
+            current: sequence.saved,
+        })?;
+    }
+    Ok(all)
 }
 
 fn have_low_numbers(tables: &Vec<Table>) -> bool

@@ -1,6 +1,7 @@
 //! The trait of a keeper of tables.
 ghost use Rattle.std.specs.Prelude.{◌≡◌, ℕ, ◌≤◌, ℤ, Bool, true, false, IsTrue, IsFalse, Option, IfOk, OnOk, OnErr, IsErrOf};
-ghost use Rattle.ur_keeper.specs.Tables.{Tables, KeptSchema, HasNextNumber, HasNextDraw, HasRowAt, MayCommit, AreRowsOf, inserted, replaced, removed, drawn, table_at, sequence_at};
+ghost use Rattle.ur_keeper.specs.Tables.{Tables, KeptSchema, HasNextNumber, HasNextDraw, HasRowAt, MayCommit, AreRowsOf, inserted, replaced, removed};
+ghost use Rattle.ur_keeper.specs.Tables.{drawn, table_at, sequence_at};
 ghost use Rattle.ur_base.specs.Counts.{HasCause, next_count};
 ghost use Rattle.ur_base.specs.Told.{WhereTold, Becomes};
 ghost use Rattle.ur_keeper.specs.Keeper.{HasTable, HasSequence, OfShape, OfSchema, IsRowOf, IsUndone, IsWithin, Attaches, AttachesTo, IsReadyOnly};
@@ -26,7 +27,7 @@ impl From<Memory> for KeeperEnd {
     }
 }
 
-/// Whether the store has the schema that it was given, or which one it keeps.
+/// Whether the store has the schema that it was given, or which other one it keeps.
 #[derive(Drop)]
 pub enum Attached {
     Ready,
@@ -57,7 +58,8 @@ pub trait Keeper {
     /// Whether a commit takes no memory.
     ghost commits_in_room: { Bool };
 
-    /// Takes the store for this schema: an empty one keeps it, and one that keeps an equal one is as it was.
+    /// Takes the store for this schema: an empty one keeps it, and so does one whose schema this one extends, where each row has Absent
+    /// in each new column. An equal schema extends itself, so that nothing changes.
     fn attach(&mut self, schema: &Schema) -> Result<Attached, KeeperEnd>
         requires { under_way self.old ≡ false }
         ensures told { IfOk result (λ answer. AttachesTo schema.now (kept self.old) answer (saved self.old) (saved self.new)) }

@@ -1,9 +1,14 @@
 //! A keeper in memory.
 ghost use Rattle.std.specs.Prelude.{◌≡◌, ◌≤◌, ◌↔◌, ◌⊎◌, refl, true, false, Some, IfOk, OnOk, OnErr, IsErrOf, IsTrue, IsFalse};
-ghost use Rattle.ur_keeper.specs.Tables.{inserted, replaced, removed, drawn, table_at, sequence_at, HasNextNumber, HasNextDraw, HasRowAt, MayCommit, AreRowsOf, AreSound, empty_tables};
+ghost use Rattle.ur_values.specs.declared.schema.Schema.{Schema as SchemaOf};
+ghost use Rattle.ur_values.specs.Extends.{extends};
+ghost use Rattle.ur_keeper.specs.Growing.{grown_tables};
+ghost use Rattle.ur_keeper.specs.Tables.{inserted, replaced, removed, drawn, table_at, sequence_at, HasNextNumber, HasNextDraw, HasRowAt, MayCommit};
+ghost use Rattle.ur_keeper.specs.Tables.{AreRowsOf, AreSound, empty_tables};
 ghost use Rattle.ur_keeper.specs.Keeper.{HasTable, HasSequence, OfShape, OfSchema, IsRowOf, IsReadyOnly};
 ghost use Rattle.ur_base.specs.FaultPlans.{Fails};
-ghost use Rattle.ur_keeper.specs.Memory.{empty_memory, current_of, kept_of, passed, begun, read, changed, committed, given_up, failed, wanting, attached, AnswersTo, IsFaulty};
+ghost use Rattle.ur_keeper.specs.Memory.{empty_memory, current_of, kept_of, passed, begun, read, changed, committed, given_up, failed, wanting};
+ghost use Rattle.ur_keeper.specs.Memory.{attached, AnswersTo, IsFaulty};
 ghost use Rattle.ur_base.specs.Counts.{HasCause};
 
 use crate::held::Held;
@@ -73,15 +78,15 @@ impl MemoryKeeper {
         self.held.saved_table(table)
     }
 
-    /// Whether the store has an equal schema and a fault.
+    /// Whether the schema extends that of the store, which has a fault.
     fn is_faulty(&self, schema: &Schema) -> bool
         ensures faulty { IsTrue result ↔ IsFaulty schema.now self.now }
-        ensures sound { IsFalse result → self.now.kept ≡ Some schema.now → AreSound schema.now self.now.saved }
+        ensures sound { IsFalse result → (kept : SchemaOf) → self.now.kept ≡ Some kept → extends schema.now kept ≡ true → AreSound kept self.now.saved }
     {
         let Some(kept) = &self.kept else {
             return false;
         };
-        if !kept.same(schema) {
+        if !schema.extends(kept) {
             return false;
         }
         !self.held.has_low_numbers()
@@ -95,6 +100,21 @@ impl MemoryKeeper {
         let kept = schema.copy(self.alloc)?;
         let held = Held::made(self.alloc, schema)?;
         self.kept = Some(kept);
+        self.held = held;
+        Ok(())
+    }
+
+    /// Keeps a schema that extends the kept one, with Absent in each new column.
+    fn grow(&mut self, schema: &Schema, kept: Schema) -> Result<(), Memory>
+        requires kept { self.old.kept ≡ Some kept }
+        requires extends { extends schema.now kept ≡ true }
+        requires sound { AreSound kept self.old.saved }
+        ensures ok { OnOk result (self.new ≡ record self.old { kept = Some schema.now; current = grown_tables schema.now kept self.old.saved; saved = grown_tables schema.now kept self.old.saved }) }
+        ensures err { OnErr result (self.new ≡ self.old) }
+    {
+        let copy = schema.copy(self.alloc)?;
+        let held = self.held.grown(self.alloc, schema, &kept)?;
+        self.kept = Some(copy);
         self.held = held;
         Ok(())
     }
@@ -150,7 +170,7 @@ impl Keeper for MemoryKeeper {
 
     ghost at_rest = { λ m rest. Prim.rw rest refl };
 
-    /// Fails exactly where it is listed and where a store with an equal schema has a fault.
+    /// Fails exactly where it is listed and where a store whose schema the given one extends has a fault.
     fn attach(&mut self, schema: &Schema) -> Result<Attached, KeeperEnd>
         requires { self.old.under_way ≡ false }
         ensures ok { OnOk result (self.new ≡ attached schema.now self.old) }
@@ -170,10 +190,12 @@ impl Keeper for MemoryKeeper {
             self.take(schema)?;
             return Ok(Attached::Ready);
         };
-        if kept.same(schema) {
+        let kept = kept.copy(self.alloc)?;
+        if schema.extends(&kept) {
+            self.grow(schema, kept)?;
             return Ok(Attached::Ready);
         }
-        Ok(Attached::Differs(kept.copy(self.alloc)?))
+        Ok(Attached::Differs(kept))
     }
 
     /// Takes no memory.

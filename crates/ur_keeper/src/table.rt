@@ -6,7 +6,7 @@ ghost use Rattle.ur_keeper.specs.Versions.{Rows};
 use crate::draft::Draft;
 use std::alloc::Global;
 use std::marker::Model;
-use ur_base::{List, Memory};
+use ur_base::{List, Memory, Shared};
 use ur_values::{Numbered, Row, copy_values};
 
 /// The saved rows of a table and, where the transaction under way has changed it, its current rows. Contracts see
@@ -35,6 +35,16 @@ impl Table {
     {
         Table {
             saved: List::new(alloc),
+            changed: None,
+        }
+    }
+
+    /// These rows, saved and current. Takes no memory.
+    pub fn of(rows: List<Numbered>) -> Table
+        ensures { result ≡ record { saved = rows; current = rows } }
+    {
+        Table {
+            saved: rows,
             changed: None,
         }
     }
@@ -75,7 +85,7 @@ impl Table {
         ensures ok { OnOk result (self.new ≡ record { saved = self.old.saved; current = add_row self.old.current row.now }) }
         ensures err { OnErr result (self.new ≡ self.old) }
     {
-        let row = copy_values(alloc, row)?;
+        let row = shared(alloc, row)?;
         let mut draft = self.take(alloc)?;
         let added = draft.insert(row);
         self.changed = Some(draft);
@@ -89,7 +99,7 @@ impl Table {
         ensures ok { OnOk result (self.new ≡ record { saved = self.old.saved; current = put_row self.old.current number row.now }) }
         ensures err { OnErr result (self.new ≡ self.old) }
     {
-        let row = copy_values(alloc, row)?;
+        let row = shared(alloc, row)?;
         let mut draft = self.take(alloc)?;
         draft.replace(number, row);
         self.changed = Some(draft);
@@ -139,7 +149,16 @@ impl Table {
     }
 }
 
-/// A copy of rows.
+/// A copy of a row, which may be shared.
+fn shared(alloc: Global, row: &Row) -> Result<Shared<Row>, Memory>
+    ensures { IfOk result (λ copy. copy ≡ row.now) }
+{
+    let copy = copy_values(alloc, row)?;
+    let shared = Shared::new(alloc, copy)?;
+    Ok(shared)
+}
+
+/// A copy of rows, which shares their values.
 fn copy_rows(alloc: Global, rows: &List<Numbered>) -> Result<List<Numbered>, Memory>
     ensures { IfOk result (λ copy. copy ≡ rows.now) }
 {

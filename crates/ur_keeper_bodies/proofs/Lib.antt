@@ -1,4 +1,9 @@
+pub mod Cells
+pub mod Growing
+pub mod Inverse
+pub mod NamedReading
 pub mod Places
+pub mod Stores
 pub mod Tables
 mod Examples
 pub mod Named

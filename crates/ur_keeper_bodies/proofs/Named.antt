@@ -13,7 +13,7 @@ use Rattle.ur_values.specs.declared.schema.Schema.{Schema}
 use Rattle.ur_values.specs.SchemaText.{kind_text, column_text, columns_text, name_at, names_text, key_text, uniques_text, keys_text, table_text, tables_text, sequences_text, schema_text}
 use Rattle.ur_keeper_bodies.specs.declared.text.Line.{Line}
 use Rattle.ur_keeper_bodies.specs.Lines.{kind_of, column_of, column_of_parts, begun, with_column, with_place, read_name, read_word, read_words, read_table, with_table, with_sequence, read_parts, read_line, read_lines, no_schema}
-use Rattle.ur_keeper_bodies.specs.Named.{Lacks, IsWord, IsColumn, IsKeyColumn, IsNamedTable, IsNamed}
+use Rattle.ur_values.specs.Named.{Lacks, IsWord, IsColumn, IsKeyColumn, IsNamedTable, IsNamed}
 use Rattle.ur_keeper_bodies.specs.Pieces.{pieces}
 use Rattle.ur_keeper_bodies.proofs.Words.{grouped, snoc, lacks-append, one-piece, piece-ends, blanks, blanks-append, words-are, lacks-blanks, differ, with-colon, true-false}
 

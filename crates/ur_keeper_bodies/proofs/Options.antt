@@ -12,6 +12,10 @@ use Rattle.ur_values.specs.Size.{size}
 use Rattle.ur_values.specs.Store.{FitsBasic, FitsOption, IsStorable}
 use Rattle.ur_keeper_bodies.specs.Rows.{basic_body, value_body, basic_of, option_of, present_of, present_at, with_rest, MayBeBasic, MayBeOption}
 
+pub present-is : (x : Value) → v.Present x ≡ v.Present' tt (more_of-Value x end_of-Value)
+unfolding block.hidden-the_row-Value-3 Carrier.hidden
+present-is x = refl
+
 pub present-body : (x : Value) → value_body (v.Present x) ≡ 1 ∷ basic_body x
 unfolding block.hidden-the_row-Value-3 Carrier.hidden
 present-body x = refl

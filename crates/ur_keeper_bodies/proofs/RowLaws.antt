@@ -21,12 +21,12 @@ use Rattle.ur_values.specs.Values.{IsInt}
 use Rattle.ur_keeper_bodies.specs.Rows.{int_body, text_body, basic_body, basic_of, option_of, present_of, value_body, row_body, front, int_of, text_of, value_of, row_of}
 use Rattle.ur_keeper_bodies.proofs.Texts.{may-be}
 
-front-of : (xs rest : List ℕ) → front (length xs) (xs ++ rest) ≡ Some (xs, rest)
+pub front-of : (xs rest : List ℕ) → front (length xs) (xs ++ rest) ≡ Some (xs, rest)
 front-of xs rest =
     let fits : nat_le (length xs) (length (xs ++ rest)) ≡ true = le-leb (length xs) (length (xs ++ rest)) (omega (arith, length-append xs rest)) in
     rw fits (λ i. Some (take-append_seam xs rest i, drop-append_seam xs rest i))
 
-front-is : (n : ℕ) (xs rest : List ℕ) → length xs ≡ n → front n (xs ++ rest) ≡ Some (xs, rest)
+pub front-is : (n : ℕ) (xs rest : List ℕ) → length xs ≡ n → front n (xs ++ rest) ≡ Some (xs, rest)
 front-is n xs rest e = subst (λ (k : ℕ). front k (xs ++ rest) ≡ Some (xs, rest)) e (front-of xs rest)
 
 fits-from : (z : ℤ) → IsInt z → FitsSigned w64 z
@@ -40,19 +40,19 @@ int-read z h =
     below (pos n) f = omega (arith, f.sfits)
     below (negsuc n) f = omega arith
 
+pub grouped : (xs t rest : List ℕ) → (xs ++ t) ++ rest ≡ xs ++ (t ++ rest)
+grouped [] t rest = refl
+grouped (x ∷ xs) t rest = ap (λ r. x ∷ r) (grouped xs t rest)
+
 text-read : (t rest : List ℕ) → IsUtf8 t → 32 + length t ≤ 16777216 → value_of kind.Str (text_body t ++ rest) ≡ Some (v.Str t, rest)
 text-read t rest u l =
     let head = to_be_bytes w32 (length t) in
     let number : from_be_bytes w32 head ≡ length t = from_be_bytes-to_be_bytes_4 (length t) (omega (arith, l)) in
-    ap (λ (b : List ℕ). value_of kind.Str b) (grouped head)
+    ap (λ (b : List ℕ). value_of kind.Str b) (grouped head t rest)
     ∙ ap (option_and_then (λ p. option_and_then text_of (front (from_be_bytes w32 p.0) p.1))) (front-is 4 head (t ++ rest) refl)
     ∙ ap (λ (n : ℕ). option_and_then text_of (front n (t ++ rest))) number
     ∙ ap (option_and_then text_of) (front-of t rest)
     ∙ ap (λ b. if b then Some (v.Str t, rest) else None) (sym (may-be t (omega (arith, l)) u))
-  where
-    grouped : (xs : List ℕ) → (xs ++ t) ++ rest ≡ xs ++ (t ++ rest)
-    grouped [] = refl
-    grouped (x ∷ xs) = ap (λ r. x ∷ r) (grouped xs)
 
 -- an int, a text or a bool that was written is read, whatever stands behind it
 basic-read-back : (x : Value) (k : ColumnKind) (rest : List ℕ) → FitsBasic x k → IsStorable x → basic_of k (basic_body x ++ rest) ≡ Some (x, rest)
@@ -64,7 +64,7 @@ basic-read-back (v.Bool false) kind.Bool rest f s = refl
 basic-read-back x k rest f s = elim f [ ]
 
 -- such a value is written by itself
-basic-body-is : (x : Value) (k : ColumnKind) → FitsBasic x k → value_body x ≡ basic_body x
+pub basic-body-is : (x : Value) (k : ColumnKind) → FitsBasic x k → value_body x ≡ basic_body x
 basic-body-is (v.Int n) kind.Int f = refl
 basic-body-is (v.Str t) kind.Str f = refl
 basic-body-is (v.Bool b) kind.Bool f = refl

@@ -1,6 +1,7 @@
 pub mod Bodies
+pub mod Columns
 pub mod Memory
 pub mod Lines
-pub mod Named
 pub mod Pieces
 pub mod Rows
+pub mod Stored

@@ -7,7 +7,7 @@ use Rattle.ur_values.specs.declared.schema.ColumnKind.TheVariants as kind
 use Rattle.ur_values.specs.declared.schema.TableShape.{TableShape}
 use Rattle.ur_values.specs.declared.schema.Schema.{Schema}
 use Rattle.ur_keeper_bodies.specs.declared.text.Line.{Line}
-use Rattle.ur_keeper_bodies.specs.Named.{place_of}
+use Rattle.ur_values.specs.Named.{place_of}
 use Rattle.ur_keeper_bodies.specs.Pieces.{pieces}
 
 abbrev pub kind_of : List ℕ → Option ColumnKind

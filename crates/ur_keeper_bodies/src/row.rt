@@ -11,7 +11,7 @@ use std::str;
 use ur_base::{Boxed, Bytes, List, Memory, Text};
 use ur_values::{ColumnKind, Row, Value};
 
-/// The bytes of a row: its values, one after the other.
+/// The bytes of a row in the first layout: its values, one after the other.
 pub fn row_bytes(alloc: Global, row: &Row) -> Result<Bytes, Memory>
     requires { All IsStorable row.now }
     ensures { IfOk result (λ bytes. bytes ≡ row_body row.now) }
@@ -23,7 +23,7 @@ pub fn row_bytes(alloc: Global, row: &Row) -> Result<Bytes, Memory>
     Ok(bytes)
 }
 
-fn write_value(bytes: &mut Bytes, value: &Value) -> Result<(), Memory>
+pub(crate) fn write_value(bytes: &mut Bytes, value: &Value) -> Result<(), Memory>
     requires { IsStorable value.now }
     ensures { OnOk result (bytes.new ≡ bytes.old ++ value_body value.now) }
 {
@@ -63,7 +63,8 @@ fn write_text(bytes: &mut Bytes, text: &Text) -> Result<(), Memory>
     bytes.extend_from_slice(text.as_slice())
 }
 
-/// The row of these columns that the bytes are those of, or None where they are those of no row that may stand in a table.
+/// The row of these columns that the bytes are those of in the first layout, or None where they are those of no row that may stand in a
+/// table.
 pub fn read_row(
     alloc: Global,
     columns: &[(Text, ColumnKind)],
@@ -88,7 +89,7 @@ pub fn read_row(
 }
 
 /// The value at the front of the bytes, and how many of them it takes.
-fn read_value(
+pub(crate) fn read_value(
     alloc: Global,
     column: ColumnKind,
     bytes: &[u8],

@@ -3,7 +3,7 @@ ghost use Rattle.std.specs.Prelude.{◌≡◌, ◌++◌, ◌∷◌, ℕ, Bool, L
 ghost use Rattle.ur_values.specs.declared.schema.Schema.{Schema as SchemaOf};
 ghost use Rattle.ur_values.specs.SchemaText.{schema_text};
 ghost use Rattle.ur_keeper_bodies.specs.Lines.{kind_of, column_of, closed, begun, with_column, with_place, with_table, with_sequence, read_name, read_word, read_words, new_line, read_table, read_sequence, is_end, read_parts, read_line, read_lines, no_schema};
-ghost use Rattle.ur_keeper_bodies.specs.Named.{place_of, IsNamed};
+ghost use Rattle.ur_values.specs.Named.{place_of, IsNamed};
 ghost use Rattle.ur_keeper_bodies.specs.Pieces.{grown, pieces};
 
 use std::alloc::Global;

@@ -14,7 +14,6 @@ use Rattle.ur_base.specs.Told.{WhereTold}
 use Rattle.ur_values.specs.declared.schema.Schema.{Schema}
 use Rattle.ur_values.specs.declared.schema.TableShape.{TableShape}
 use Rattle.ur_values.specs.declared.schema.Numbered.{Numbered}
-use Rattle.ur_values.specs.SchemaText.{schema_text}
 use Rattle.ur_values.specs.Store.{FitsShape, IsStorable}
 use Rattle.ur_values.specs.Values.{IsInt}
 use Rattle.ur_values.specs.Keys.{key_of, repeats, repeated_key}
@@ -26,7 +25,10 @@ use Rattle.ur_keeper_bodies.specs.declared.bodies.BodyChange.TheVariants as chan
 use Rattle.ur_keeper_bodies.specs.Bodies.{BodyMap, body_at, bodies_of, written, CanWrite}
 use Rattle.ur_keeper_bodies.proofs.Places.{place_total}
 use Rattle.ur_keeper_bodies.proofs.Tables.{bodies-find, bodies-put-elsewhere, place-tie}
-use Rattle.ur_keeper_kept.specs.Laid.{text_at, table_tab, columns_of, kinds_at, rows_in, table_in, number_in, number_of_body, IsRowBody, IsLaid}
+use Rattle.ur_keeper_bodies.specs.declared.stored.Layout.{Layout}
+use Rattle.ur_keeper_bodies.specs.declared.stored.Layout.TheVariants as layouts
+use Rattle.ur_keeper_bodies.specs.Stored.{stored_text}
+use Rattle.ur_keeper_kept.specs.Laid.{text_at, table_tab, columns_at, rows_in, table_in, table_by, number_in, number_of_body, IsRowBody, IsLaid, HasShortNames}
 use Rattle.ur_keeper_kept.proofs.LaidLaws.{apart-from-tables, other-number}
 use Rattle.ur_keeper_kept.specs.Kept.{AreRead, AreLow}
 use Rattle.ur_keeper_kept.specs.Attach.{IsSoundRows, IsSoundTable, IsSoundSequence, IsSoundStore, ones, IsFresh, IsTaken, Starts}
@@ -44,21 +46,25 @@ from-here k = omega arith
 pub from-zero : (i : ℕ) → 0 + i ≡ i
 from-zero i = omega arith
 
-zip-range : {A B : Type 0} (R : A → B → Type 0) (f : ℕ → B) (xs : List A) (k : ℕ) → ((i : ℕ) → i < length xs → IfSome (slice_get xs i) (λ x. R x (f (k + i)))) → AllZip R xs (map f (range_with_len k (length xs)))
+zip-range : {A B : Type 0} (R : A → B → Type 0) (f : ℕ → B) (xs : List A) (k : ℕ) → ((i : ℕ) → i < length xs → IfSome (slice_get xs i) (λ x. R x (f (k + i))))
+    → AllZip R xs (map f (range_with_len k (length xs)))
 zip-range R f [] k h = tt
 zip-range {A} R f (x ∷ xs) k h = (
   subst (λ (j : ℕ). R x (f j)) (from-here k) (h zero (omega arith)),
   zip-range R f xs (k + 1) (λ i l. subst (λ (j : ℕ). IfSome (slice_get xs i) (λ (y : A). R y (f j))) (shift k i) (h (suc i) (omega (arith, l)))),
 )
 
-zip-all : {A B : Type 0} (R : A → B → Type 0) (f : ℕ → B) (xs : List A) → ((i : ℕ) → i < length xs → IfSome (slice_get xs i) (λ x. R x (f i))) → AllZip R xs (map f (range_with_len 0 (length xs)))
+zip-all : {A B : Type 0} (R : A → B → Type 0) (f : ℕ → B) (xs : List A) → ((i : ℕ) → i < length xs → IfSome (slice_get xs i) (λ x. R x (f i)))
+    → AllZip R xs (map f (range_with_len 0 (length xs)))
 zip-all {A} R f xs h = zip-range R f xs 0 (λ i l. subst (λ (j : ℕ). IfSome (slice_get xs i) (λ (x : A). R x (f j))) (sym (from-zero i)) (h i l))
 
 pub all-range : {B : Type 0} (P : B → Type 0) (f : ℕ → B) (n k : ℕ) → ((i : ℕ) → k ≤ i → i < k + n → P (f i)) → All P (map f (range_with_len k n))
 all-range P f zero k h = All-nil P
-all-range P f (suc n) k h = All-cons P (f k) (map f (range_with_len (k + 1) n)) (h k (omega arith) (omega arith)) (all-range P f n (k + 1) (λ i l u. h i (omega (arith, l)) (omega (arith, u))))
+all-range P f (suc n) k h =
+    All-cons P (f k) (map f (range_with_len (k + 1) n)) (h k (omega arith) (omega arith)) (all-range P f n (k + 1) (λ i l u. h i (omega (arith, l)) (omega (arith, u))))
 
-pub map-range : {A B : Type 0} (f : ℕ → B) (b : B) (xs : List A) (k : ℕ) → ((i : ℕ) → k ≤ i → i < k + length xs → f i ≡ b) → map f (range_with_len k (length xs)) ≡ map (λ x. b) xs
+pub map-range : {A B : Type 0} (f : ℕ → B) (b : B) (xs : List A) (k : ℕ) → ((i : ℕ) → k ≤ i → i < k + length xs → f i ≡ b)
+    → map f (range_with_len k (length xs)) ≡ map (λ x. b) xs
 map-range f b [] k h = refl
 map-range f b (x ∷ xs) k h = λ j. h k (omega arith) (omega arith) j ∷ map-range f b xs (k + 1) (λ i l u. h i (omega (arith, l)) (omega (arith, u))) j
 
@@ -67,7 +73,8 @@ length-range f zero k = refl
 length-range f (suc n) k = omega (arith, length-range f n (k + 1))
 
 pub unall-range : {B : Type 0} (P : B → Type 0) (f : ℕ → B) (n i : ℕ) → i < n → All P (map f (range_with_len 0 n)) → P (f i)
-unall-range P f n i l h = subst P (get_or-map-range_with_len f 0 n i i (f i) l (omega arith)) (All-get_or P (map f (range_with_len 0 n)) i (f i) (omega (arith, l, length-range f n 0)) h)
+unall-range P f n i l h =
+    subst P (get_or-map-range_with_len f 0 n i i (f i) l (omega arith)) (All-get_or P (map f (range_with_len 0 n)) i (f i) (omega (arith, l, length-range f n 0)) h)
 
 pub some-weaker : {A : Type 0} (o : Option A) (P Q : A → Type 0) → ((x : A) → P x → Q x) → IfSome o P → IfSome o Q
 some-weaker None P Q f p = tt
@@ -80,7 +87,7 @@ some-there (x ∷ xs) (suc i) l P h = some-there xs i (omega (arith, l)) P h
 
 -- ---- a store that was tested
 
-module _ (s : Schema) (m : BodyMap) (tables : (i : ℕ) → i < length s.tables → IsSoundTable s m i) (sequences : (i : ℕ) → i < length s.sequences → IsSoundSequence m i) where
+module _ (layout : Layout) (s : Schema) (m : BodyMap) (tables : (i : ℕ) → i < length s.tables → IsSoundTable layout s m i) (sequences : (i : ℕ) → i < length s.sequences → IsSoundSequence m i) where
   number-here : (i : ℕ) (q : IsSoundSequence m i) → number_in m i ≡ q.0
   number-here i q = ap number_of_body q.1.1 ∙ ap (λ o. unwrap_or o (pos 1)) q.1.2
 
@@ -92,7 +99,7 @@ module _ (s : Schema) (m : BodyMap) (tables : (i : ℕ) → i < length s.tables 
       every (x ∷ xs) zero p = p
       every (x ∷ xs) (suc i) p = every xs i p
 
-  pub sound-store : IsSoundStore s m
+  pub sound-store : IsSoundStore layout s m
   sound-store = record {
     laid = record {
       tables = λ i l. (tables i l).laid;
@@ -100,13 +107,16 @@ module _ (s : Schema) (m : BodyMap) (tables : (i : ℕ) → i < length s.tables 
     };
     sound = record {
       fits = record {
-        tables = zip-all AreRowsOf (table_in s m) s.tables (λ i l. (tables i l).fits);
+        tables = zip-all AreRowsOf (table_by layout s m) s.tables (λ i l. (tables i l).fits);
         sequences = zip-all (λ name n. pos 1 ≤ℤ n) (number_in m) s.sequences names-there;
       };
-      commits = zip-all MayCommitTable (table_in s m) s.tables (λ i l. some-weaker (slice_get s.tables i) (λ shape. IsSoundRows shape (table_in s m i)) (λ shape. MayCommitTable shape (table_in s m i)) (λ shape r. r.commits) (tables i l).sound);
+      commits =
+          zip-all MayCommitTable (table_by layout s m) s.tables (λ i l. some-weaker (slice_get s.tables i) (λ shape. IsSoundRows shape (table_by layout s m i)) (λ shape. MayCommitTable shape (table_by layout s m i)) (λ shape r. r.commits) (tables i l).sound);
       numbers = record {
-        rows = all-range (All (λ (r : Numbered). r.number ≤ 4611686018427387904)) (table_in s m) (length s.tables) 0 (λ i k u. let l : i < length s.tables = omega (arith, u) in some-there s.tables i l (All (λ (r : Numbered). r.number ≤ 4611686018427387904) (table_in s m i)) (some-weaker (slice_get s.tables i) (λ shape. IsSoundRows shape (table_in s m i)) (λ shape. All (λ (r : Numbered). r.number ≤ 4611686018427387904) (table_in s m i)) (λ shape r. r.numbers) (tables i l).sound));
-        sequences = all-range (λ (n : ℤ). n ≤ℤ pos 4611686018427387904) (number_in m) (length s.sequences) 0 (λ i k u. let l : i < length s.sequences = omega (arith, u) in subst (λ (z : ℤ). z ≤ℤ pos 4611686018427387904) (sym (number-here i (sequences i l))) (sequences i l).3);
+        rows =
+            all-range (All (λ (r : Numbered). r.number ≤ 4611686018427387904)) (table_by layout s m) (length s.tables) 0 (λ i k u. let l : i < length s.tables = omega (arith, u) in some-there s.tables i l (All (λ (r : Numbered). r.number ≤ 4611686018427387904) (table_by layout s m i)) (some-weaker (slice_get s.tables i) (λ shape. IsSoundRows shape (table_by layout s m i)) (λ shape. All (λ (r : Numbered). r.number ≤ 4611686018427387904) (table_by layout s m i)) (λ shape r. r.numbers) (tables i l).sound));
+        sequences =
+            all-range (λ (n : ℤ). n ≤ℤ pos 4611686018427387904) (number_in m) (length s.sequences) 0 (λ i k u. let l : i < length s.sequences = omega (arith, u) in subst (λ (z : ℤ). z ≤ℤ pos 4611686018427387904) (sym (number-here i (sequences i l))) (sequences i l).3);
       };
     };
   }
@@ -149,7 +159,8 @@ empty-sound schema =
       commits = zip-made MayCommitTable schema.tables [] (λ shape. record { distinct = no-key shape.keys; not_over = omega arith });
       numbers =
           record {
-            rows = all-made (All (λ (r : Numbered). r.number ≤ 4611686018427387904)) schema.tables [] (All-nil (λ (r : Numbered). r.number ≤ 4611686018427387904));
+            rows =
+                all-made (All (λ (r : Numbered). r.number ≤ 4611686018427387904)) schema.tables [] (All-nil (λ (r : Numbered). r.number ≤ 4611686018427387904));
             sequences = all-made (λ (n : ℤ). n ≤ℤ pos 4611686018427387904) schema.sequences (pos 1) (omega (arith, ints));
           };
     }
@@ -208,7 +219,8 @@ ones-can m k (suc n) h = (
 
 ones-push : (k n : ℕ) → ones k (suc n) ≡ ones k n ++ change.Add (pos 1) (pos (k + n)) one ∷ []
 ones-push k zero = λ i. change.Add (pos 1) (pos (sym (from-here k) i)) one ∷ []
-ones-push k (suc n) = ap (λ (cs : List BodyChange). change.Add (pos 1) (pos k) one ∷ cs) (ones-push (k + 1) n ∙ (λ i. ones (k + 1) n ++ change.Add (pos 1) (pos (sym (shift k n) i)) one ∷ []))
+ones-push k (suc n) =
+    ap (λ (cs : List BodyChange). change.Add (pos 1) (pos k) one ∷ cs) (ones-push (k + 1) n ∙ (λ i. ones (k + 1) n ++ change.Add (pos 1) (pos (sym (shift k n) i)) one ∷ []))
 
 pub ones-more : (n : ℕ) → ones 0 (n + 1) ≡ ones 0 n ++ change.Add (pos 1) (pos n) one ∷ []
 ones-more n = ap (ones 0) (next n) ∙ ones-push 0 n ∙ (λ i. ones 0 n ++ change.Add (pos 1) (pos (from-zero n i)) one ∷ [])
@@ -219,9 +231,9 @@ ones-more n = ap (ones 0) (next n) ∙ ones-push 0 n ∙ (λ i. ones 0 n ++ chan
 one-fits : IsInt (pos 1)
 one-fits = search
 
-module _ (s : Schema) (m : BodyMap) (none : None ≡ text_at m) (rows : (i : ℕ) → i < length s.tables → bodies_of m (table_tab i) ≡ []) (numbers : (i : ℕ) → i < length s.sequences → body_at m (pos 1) (pos i) ≡ None) where
+module _ (s : Schema) (m : BodyMap) (short : HasShortNames s) (none : None ≡ text_at m) (rows : (i : ℕ) → i < length s.tables → bodies_of m (table_tab i) ≡ []) (numbers : (i : ℕ) → i < length s.sequences → body_at m (pos 1) (pos i) ≡ None) where
   abbrev texted : BodyMap
-  texted = insert m (pos 0, pos 0) (schema_text s)
+  texted = insert m (pos 0, pos 0) (stored_text s)
 
   abbrev n : ℕ
   n = length s.sequences
@@ -229,19 +241,21 @@ module _ (s : Schema) (m : BodyMap) (none : None ≡ text_at m) (rows : (i : ℕ
   abbrev made : BodyMap
   made = written texted (ones 0 n)
 
-  text-here : text_at texted ≡ Some (schema_text s)
+  text-here : text_at texted ≡ Some (stored_text s)
   text-here =
-      get-insert place_total m (pos 0, pos 0) (schema_text s) (pos 0, pos 0)
-      ∙ ap (λ b. cond b (Some (schema_text s)) (text_at m)) (place-tie (pos 0) (pos 0) (pos 0) (pos 0) true refl ∙ ap is_eq (tied_itself int_cmp_total (pos 0)))
+      get-insert place_total m (pos 0, pos 0) (stored_text s) (pos 0, pos 0)
+      ∙ ap (λ b. cond b (Some (stored_text s)) (text_at m)) (place-tie (pos 0) (pos 0) (pos 0) (pos 0) true refl ∙ ap is_eq (tied_itself int_cmp_total (pos 0)))
 
   number-stays : (j : ℕ) → body_at texted (pos 1) (pos j) ≡ body_at m (pos 1) (pos j)
-  number-stays j = get-insert place_total m (pos 0, pos 0) (schema_text s) (pos 1, pos j) ∙ ap (λ b. cond b (Some (schema_text s)) (body_at m (pos 1) (pos j))) (place-tie (pos 1) (pos 0) (pos j) (pos 0) false refl)
+  number-stays j =
+      get-insert place_total m (pos 0, pos 0) (stored_text s) (pos 1, pos j) ∙ ap (λ b. cond b (Some (stored_text s)) (body_at m (pos 1) (pos j))) (place-tie (pos 1) (pos 0) (pos j) (pos 0) false refl)
 
-  pub can-start : CanWrite m (change.Add (pos 0) (pos 0) (schema_text s) ∷ ones 0 n)
+  pub can-start : CanWrite m (change.Add (pos 0) (pos 0) (stored_text s) ∷ ones 0 n)
   can-start = (ap (λ (o : Option (List ℕ)). not (is_some o)) (sym none), ones-can texted 0 n (λ j l u. number-stays j ∙ numbers j (omega (arith, u))))
 
   no-bodies : (i : ℕ) → i < length s.tables → bodies_of made (table_tab i) ≡ []
-  no-bodies i l = ones-elsewhere texted 0 n (table_tab i) (apart-from-tables i) ∙ bodies-put-elsewhere m (table_tab i) (pos 0) (pos 0) (schema_text s) (zero-apart i) ∙ rows i l
+  no-bodies i l =
+      ones-elsewhere texted 0 n (table_tab i) (apart-from-tables i) ∙ bodies-put-elsewhere m (table_tab i) (pos 0) (pos 0) (stored_text s) (zero-apart i) ∙ rows i l
     where
       zero-apart : (i : ℕ) → int_eq (pos 0) (table_tab i) ≡ false
       zero-apart i = grind arith
@@ -251,7 +265,7 @@ module _ (s : Schema) (m : BodyMap) (none : None ≡ text_at m) (rows : (i : ℕ
 
   laid-made : IsLaid s made
   laid-made = record {
-    tables = λ i l. subst (λ (es : List (ℤ × List ℕ)). All (IsRowBody (kinds_at s i)) es) (sym (no-bodies i l)) (All-nil (IsRowBody (kinds_at s i)));
+    tables = λ i l. subst (λ (es : List (ℤ × List ℕ)). All (IsRowBody (columns_at s i)) es) (sym (no-bodies i l)) (All-nil (IsRowBody (columns_at s i)));
     sequences = λ i l. (one, pos 1, number-made i l, ap Some (int-read (pos 1) one-fits), omega (arith, ints));
   }
 
@@ -262,69 +276,83 @@ module _ (s : Schema) (m : BodyMap) (none : None ≡ text_at m) (rows : (i : ℕ
   started =
       let text = ones-text texted 0 n ∙ text-here in
       record {
-        pending = record { good = record { text = text; saved = laid-made; fits = tt; text_stays = text; current = laid-made; low = low-made; stays_low = low-made }; seen = tt; drawn = none-drawn made };
+        pending = record { good = record { short = short; text = text; saved = laid-made; fits = tt; text_stays = text; current = laid-made; low = low-made; stays_low = low-made }; seen = tt; drawn = none-drawn made };
         tables = λ j. record {
-          tables = map-range (table_in s made) [] s.tables 0 (λ i l u. ap (rows_in (kinds_at s i)) (no-bodies i (omega (arith, u)))) j;
-          sequences = map-range (number_in made) (pos 1) s.sequences 0 (λ i l u. ap number_of_body (number-made i (omega (arith, u))) ∙ ap (λ o. unwrap_or o (pos 1)) (ap Some (int-read (pos 1) one-fits))) j;
+          tables = map-range (table_in s made) [] s.tables 0 (λ i l u. ap (rows_in (columns_at s i)) (no-bodies i (omega (arith, u)))) j;
+          sequences =
+              map-range (number_in made) (pos 1) s.sequences 0 (λ i l u. ap number_of_body (number-made i (omega (arith, u))) ∙ ap (λ o. unwrap_or o (pos 1)) (ap Some (int-read (pos 1) one-fits))) j;
         };
       }
 
 -- ---- where it is told
 
-pub can-write-told : (s : Schema) (old mid now : Option BodyMap) (k n : ℕ) (cs : List BodyChange) → mid ≡ old → now ≡ mid → k ≡ length s.tables → n ≡ length s.sequences
-    → cs ≡ change.Add (pos 0) (pos 0) (schema_text s) ∷ ones 0 (length s.sequences)
-    → WhereTold old (λ m. None ≡ text_at m) → WhereTold old (λ m. (i : ℕ) → i < k → bodies_of m (table_tab i) ≡ []) → WhereTold mid (λ m. (i : ℕ) → i < n → body_at m (pos 1) (pos i) ≡ None)
+pub can-write-told : (s : Schema) → HasShortNames s → (old mid now : Option BodyMap) (k n : ℕ) (cs : List BodyChange) → mid ≡ old → now ≡ mid
+    → k ≡ length s.tables → n ≡ length s.sequences
+    → cs ≡ change.Add (pos 0) (pos 0) (stored_text s) ∷ ones 0 (length s.sequences)
+    → WhereTold old (λ m. None ≡ text_at m) → WhereTold old (λ m. (i : ℕ) → i < k → bodies_of m (table_tab i) ≡ [])
+    → WhereTold mid (λ m. (i : ℕ) → i < n → body_at m (pos 1) (pos i) ≡ None)
     → WhereTold now (λ m. CanWrite m cs)
-can-write-told s None mid now k n cs emid enow ek en ecs none rows numbers = subst (λ (o : Option BodyMap). WhereTold o (λ m. CanWrite m cs)) (sym (enow ∙ emid)) tt
-can-write-told s (Some m) mid now k n cs emid enow ek en ecs none rows numbers =
+can-write-told s short None mid now k n cs emid enow ek en ecs none rows numbers =
+    subst (λ (o : Option BodyMap). WhereTold o (λ m. CanWrite m cs)) (sym (enow ∙ emid)) tt
+can-write-told s short (Some m) mid now k n cs emid enow ek en ecs none rows numbers =
     let there = subst (λ (o : Option BodyMap). WhereTold o (λ m. (i : ℕ) → i < n → body_at m (pos 1) (pos i) ≡ None)) emid numbers in
     subst (λ (o : Option BodyMap). WhereTold o (λ m. CanWrite m cs)) (sym (enow ∙ emid))
-    (subst (λ (x : List BodyChange). CanWrite m x) (sym ecs) (can-start s m none (λ i l. rows i (omega (arith, ek, l))) (λ i l. there i (omega (arith, en, l)))))
+    (subst (λ (x : List BodyChange). CanWrite m x) (sym ecs) (can-start s m short none (λ i l. rows i (omega (arith, ek, l))) (λ i l. there i (omega (arith, en, l)))))
 
-pub starts-told : (s : Schema) (old mid now after : Option BodyMap) (k n : ℕ) (cs : List BodyChange) → mid ≡ old → now ≡ mid → k ≡ length s.tables → n ≡ length s.sequences
-    → cs ≡ change.Add (pos 0) (pos 0) (schema_text s) ∷ ones 0 (length s.sequences)
-    → WhereTold old (λ m. None ≡ text_at m) → WhereTold old (λ m. (i : ℕ) → i < k → bodies_of m (table_tab i) ≡ []) → WhereTold mid (λ m. (i : ℕ) → i < n → body_at m (pos 1) (pos i) ≡ None)
+pub starts-told : (s : Schema) → HasShortNames s → (old mid now after : Option BodyMap) (k n : ℕ) (cs : List BodyChange) → mid ≡ old → now ≡ mid
+    → k ≡ length s.tables → n ≡ length s.sequences
+    → cs ≡ change.Add (pos 0) (pos 0) (stored_text s) ∷ ones 0 (length s.sequences)
+    → WhereTold old (λ m. None ≡ text_at m) → WhereTold old (λ m. (i : ℕ) → i < k → bodies_of m (table_tab i) ≡ [])
+    → WhereTold mid (λ m. (i : ℕ) → i < n → body_at m (pos 1) (pos i) ≡ None)
     → after ≡ option_map (λ m. written m cs) now → Starts s old after
-starts-told s None mid now after k n cs emid enow ek en ecs none rows numbers e = e ∙ ap (option_map (λ (m : BodyMap). written m cs)) (enow ∙ emid)
-starts-told s (Some m) mid now after k n cs emid enow ek en ecs none rows numbers e =
+starts-told s short None mid now after k n cs emid enow ek en ecs none rows numbers e = e ∙ ap (option_map (λ (m : BodyMap). written m cs)) (enow ∙ emid)
+starts-told s short (Some m) mid now after k n cs emid enow ek en ecs none rows numbers e =
     let there = subst (λ (o : Option BodyMap). WhereTold o (λ m. (i : ℕ) → i < n → body_at m (pos 1) (pos i) ≡ None)) emid numbers in (
-      written m (change.Add (pos 0) (pos 0) (schema_text s) ∷ ones 0 (length s.sequences)),
+      written m (change.Add (pos 0) (pos 0) (stored_text s) ∷ ones 0 (length s.sequences)),
       e ∙ ap (option_map (λ (m : BodyMap). written m cs)) (enow ∙ emid) ∙ ap (λ (x : List BodyChange). Some (written m x)) ecs,
-      started s m none (λ i l. rows i (omega (arith, ek, l))) (λ i l. there i (omega (arith, en, l))),
+      started s m short none (λ i l. rows i (omega (arith, ek, l))) (λ i l. there i (omega (arith, en, l))),
     )
 
-pub store-told : (s : Schema) (old mid : Option BodyMap) (n : ℕ) → mid ≡ old → n ≡ length s.sequences → WhereTold old (λ m. (i : ℕ) → i < length s.tables → IsSoundTable s m i) → WhereTold mid (λ m. (i : ℕ) → i < n → IsSoundSequence m i)
-    → WhereTold old (IsSoundStore s)
-store-told s None mid n e en tables sequences = tt
-store-told s (Some m) mid n e en tables sequences =
+pub store-told : (layout : Layout) (s : Schema) (old mid : Option BodyMap) (n : ℕ) → mid ≡ old → n ≡ length s.sequences
+    → WhereTold old (λ m. (i : ℕ) → i < length s.tables → IsSoundTable layout s m i) → WhereTold mid (λ m. (i : ℕ) → i < n → IsSoundSequence m i)
+    → WhereTold old (IsSoundStore layout s)
+store-told layout s None mid n e en tables sequences = tt
+store-told layout s (Some m) mid n e en tables sequences =
     let there = subst (λ (o : Option BodyMap). WhereTold o (λ m. (i : ℕ) → i < n → IsSoundSequence m i)) e sequences in
-    sound-store s m tables (λ i l. there i (omega (arith, en, l)))
+    sound-store layout s m tables (λ i l. there i (omega (arith, en, l)))
 
-table-sound : (s : Schema) (m : BodyMap) (place : ℕ) (rows : List Numbered) (next : ℤ) (shape : TableShape) → slice_get s.tables place ≡ Some shape → AreRead (columns_of (slice_get s.tables place)) (bodies_of m (table_tab place)) rows next
-    → IfSome (slice_get s.tables place) (λ x. AreRowsOf x rows) → IsSoundRows shape rows → IsSoundTable s m place
-table-sound s m place rows next shape e read fits sound = record {
+table-sound : (layout : Layout) (s : Schema) (m : BodyMap) (place : ℕ) (rows : List Numbered) (next : ℤ) (shape : TableShape)
+    → slice_get s.tables place ≡ Some shape → AreRead layout (columns_at s place) (bodies_of m (table_tab place)) rows next
+    → IfSome (slice_get s.tables place) (λ x. AreRowsOf x rows) → IsSoundRows shape rows → IsSoundTable layout s m place
+table-sound layout s m place rows next shape e read fits sound = record {
   laid = read.laid;
   fits = subst (λ (x : List Numbered). IfSome (slice_get s.tables place) (λ (y : TableShape). AreRowsOf y x)) read.read fits;
-  sound = subst (λ (o : Option TableShape). IfSome o (λ x. IsSoundRows x (table_in s m place))) (sym e) (subst (λ (x : List Numbered). IsSoundRows shape x) read.read sound);
+  sound =
+      subst (λ (o : Option TableShape). IfSome o (λ x. IsSoundRows x (table_by layout s m place))) (sym e) (subst (λ (x : List Numbered). IsSoundRows shape x) read.read sound);
 }
 
-pub table-told : (s : Schema) (told : Option BodyMap) (table place : ℕ) (rows : List Numbered) (next : ℤ) (shape : TableShape) → table ≡ place → slice_get s.tables place ≡ Some shape
-    → WhereTold told (λ m. AreRead (columns_of (slice_get s.tables table)) (bodies_of m (table_tab table)) rows next) → IfSome (slice_get s.tables table) (λ x. AreRowsOf x rows) → IsSoundRows shape rows
-    → WhereTold told (λ m. IsSoundTable s m place)
-table-told s None table place rows next shape e there read fits sound = tt
-table-told s (Some m) table place rows next shape e there read fits sound =
-    table-sound s m place rows next shape there
-    (subst (λ (t : ℕ). AreRead (columns_of (slice_get s.tables t)) (bodies_of m (table_tab t)) rows next) e read)
+pub table-told : (layout : Layout) (s : Schema) (told : Option BodyMap) (table place : ℕ) (rows : List Numbered) (next : ℤ) (shape : TableShape) → table ≡ place
+    → slice_get s.tables place ≡ Some shape
+    → WhereTold told (λ m. AreRead layout (columns_at s table) (bodies_of m (table_tab table)) rows next)
+    → IfSome (slice_get s.tables table) (λ x. AreRowsOf x rows) → IsSoundRows shape rows
+    → WhereTold told (λ m. IsSoundTable layout s m place)
+table-told layout s None table place rows next shape e there read fits sound = tt
+table-told layout s (Some m) table place rows next shape e there read fits sound =
+    table-sound layout s m place rows next shape there
+    (subst (λ (t : ℕ). AreRead layout (columns_at s t) (bodies_of m (table_tab t)) rows next) e read)
     (subst (λ (t : ℕ). IfSome (slice_get s.tables t) (λ (x : TableShape). AreRowsOf x rows)) e fits) sound
 
-sound-low : (s : Schema) (m : BodyMap) → IsSoundStore s m → AreLow s m
+sound-low : (s : Schema) (m : BodyMap) → IsSoundStore layouts.Two s m → AreLow s m
 sound-low s m h i n l there =
     let rows : All (λ r. r.number ≤ 4611686018427387904) (table_in s m i) = unall-range (All (λ (r : Numbered). r.number ≤ 4611686018427387904)) (table_in s m) (length s.tables) i l h.sound.numbers.rows in
-    has-low (table_in s m i) n rows (sym (ap is_some (sym (bodies-find m (table_tab i) (pos n))) ∙ has-there (kinds_at s i) n (bodies_of m (table_tab i)) (h.laid.tables i l)) ∙ there)
+    has-low (table_in s m i) n rows (sym (ap is_some (sym (bodies-find m (table_tab i) (pos n))) ∙ has-there (columns_at s i) n (bodies_of m (table_tab i)) (h.laid.tables i l)) ∙ there)
 
-taken : (s : Schema) (m : BodyMap) → text_at m ≡ Some (schema_text s) → IsSoundStore s m → IsTaken s m
-taken s m text h = record { pending = record { good = record { text = text; saved = h.laid; fits = tt; text_stays = text; current = h.laid; low = sound-low s m h; stays_low = sound-low s m h }; seen = tt; drawn = none-drawn m }; sound = h.sound }
-
-pub taken-told : (s : Schema) (told : Option BodyMap) (kept : List ℕ) → kept ≡ schema_text s → WhereTold told (λ m. Some kept ≡ text_at m) → WhereTold told (IsSoundStore s) → WhereTold told (IsTaken s)
-taken-told s None kept e text h = tt
-taken-told s (Some m) kept e text h = taken s m (sym text ∙ ap Some e) h
+pub taken : (s : Schema) (m : BodyMap) → HasShortNames s → text_at m ≡ Some (stored_text s) → IsSoundStore layouts.Two s m → IsTaken s m
+taken s m short text h = record {
+  pending = record {
+    good = record { short = short; text = text; saved = h.laid; fits = tt; text_stays = text; current = h.laid; low = sound-low s m h; stays_low = sound-low s m h };
+    seen = tt;
+    drawn = none-drawn m;
+  };
+  sound = h.sound;
+}

@@ -1,6 +1,6 @@
 -- What has no fault.
 use Rattle.std.proofs.Common.{◌≡◌, ◌≢◌, ℕ, zero, suc, ◌+◌, ◌≤◌, ◌<◌, ℤ, pos, negsuc, ◌+ℤ◌, ◌≤ℤ◌, ◌<ℤ◌, List, [], ◌∷◌, length, map, All, Option, Some, None, IfSome, T, refl, ap, sym, subst, ◌∙◌, arith}
-use Rattle.std.specs.Prelude.{Result, Ok, Err, IsErrAnd, slice_get, unsigned_abs, unwrap_or}
+use Rattle.std.specs.Prelude.{Result, Ok, Err, IsErrAnd, OnErr, slice_get, unsigned_abs, unwrap_or}
 use Rattle.std.specs.List.{AllZip, range_with_len}
 use Rattle.std.specs.declared.cmp.Ordering.{Ordering}
 use Rattle.std.specs.declared.cmp.Ordering.TheVariants.{Less, Equal, Greater}
@@ -10,15 +10,17 @@ use Rattle.std.specs.FinMap.Entries.{below_all}
 use Rattle.std.proofs.lemmas.Int.{ints}
 use Rattle.std.proofs.lemmas.List.Elements.{All-nil, All-cons, All-head, All-tail, All-weaker}
 use Rattle.ur_base.specs.Told.{WhereTold}
-use Rattle.ur_values.specs.declared.schema.ColumnKind.{ColumnKind}
 use Rattle.ur_values.specs.declared.schema.Schema.{Schema}
 use Rattle.ur_values.specs.declared.schema.Numbered.{Numbered}
 use Rattle.ur_values.specs.Store.{Row}
 use Rattle.ur_keeper.specs.Tables.{AreRowsOf, MayCommitTable}
-use Rattle.ur_keeper_bodies.specs.Rows.{row_of, number_of}
+use Rattle.ur_keeper_bodies.specs.declared.stored.Layout.{Layout}
+use Rattle.ur_keeper_bodies.specs.Rows.{number_of}
+use Rattle.ur_keeper_bodies.specs.Columns.{Column}
+use Rattle.ur_keeper_bodies.specs.Stored.{body_row}
 use Rattle.ur_keeper_bodies.specs.Bodies.{BodyMap, body_at, bodies_of}
 use Rattle.ur_keeper_bodies.proofs.Places.{first, second}
-use Rattle.ur_keeper_kept.specs.Laid.{table_tab, kinds_at, rows_in, table_in, number_in, number_of_body, IsRowBody}
+use Rattle.ur_keeper_kept.specs.Laid.{table_tab, columns_at, rows_by, table_by, number_in, number_of_body, IsBodyBy}
 use Rattle.ur_keeper_kept.specs.Kept.{IsNumber}
 use Rattle.ur_keeper_kept.specs.Attach.{IsSoundRows, IsSoundTable, IsSoundSequence, IsSoundStore}
 use Rattle.ur_keeper_kept.specs.Faults.{Finds, AreReadable, IsDrawable, HasLowNumbers}
@@ -27,15 +29,22 @@ use Rattle.ur_keeper_kept.proofs.Attaching.{some-weaker, some-there, from-here, 
 
 -- ---- a fault of a part, behind calls that found none
 
-pub finds-part : {A : Type 0} (old mid now : ℕ) (told told' : Option A) (P Q : A → Type 0) → mid ≡ old → told' ≡ told → ((a : A) → P a → Q a) → (now ≢ mid → WhereTold told' P) → now ≢ old → WhereTold told Q
+pub finds-part : {A : Type 0} (old mid now : ℕ) (told told' : Option A) (P Q : A → Type 0) → mid ≡ old → told' ≡ told → ((a : A) → P a → Q a)
+    → (now ≢ mid → WhereTold told' P) → now ≢ old → WhereTold told Q
 finds-part old mid now told told' P Q e t f h other = told-one told P Q (subst (λ o. WhereTold o P) t (h (λ same. other (same ∙ e)))) f
 
 -- what a `?` answers
-pub finds-at : {A T E : Type 0} (r : Result T E) (Q : E → Type 0) (old now : ℕ) (told : Option A) (P : A → Type 0) → IsErrAnd r Q → (now ≢ old → WhereTold told P) → Finds r old now told P
+pub finds-at : {A T E : Type 0} (r : Result T E) (Q : E → Type 0) (old now : ℕ) (told : Option A) (P : A → Type 0) → IsErrAnd r Q
+    → (now ≢ old → WhereTold told P) → Finds r old now told P
 finds-at (Ok x) Q old now told P i h = absurd i
 finds-at (Err e) Q old now told P i h = h
 
-pub finds-exit : {A T E : Type 0} (r : Result T E) (Q : E → Type 0) (old mid now : ℕ) (told told' : Option A) (P R : A → Type 0) → IsErrAnd r Q → mid ≡ old → told' ≡ told → ((a : A) → P a → R a) → (now ≢ mid → WhereTold told' P) → Finds r old now told R
+pub err-at : {T E : Type 0} (r : Result T E) (P : Type 0) → P → OnErr r P
+err-at (Ok x) P p = tt
+err-at (Err e) P p = p
+
+pub finds-exit : {A T E : Type 0} (r : Result T E) (Q : E → Type 0) (old mid now : ℕ) (told told' : Option A) (P R : A → Type 0) → IsErrAnd r Q → mid ≡ old
+    → told' ≡ told → ((a : A) → P a → R a) → (now ≢ mid → WhereTold told' P) → Finds r old now told R
 finds-exit r Q old mid now told told' P R i e t f h = finds-at r Q old now told R i (finds-part old mid now told told' P R e t f h)
 
 -- ---- bodies that read
@@ -44,9 +53,9 @@ abbrev Es : Type 0
 Es = List (ℤ × List ℕ)
 
 -- so they do from this number on, one after the other
-abbrev pub ReadsFrom : List ColumnKind → ℤ → Es → Type 0
-ReadsFrom kinds next [] = Unit {0}
-ReadsFrom kinds next (e ∷ es) = (next ≤ℤ e.0) × (e.0 <ℤ pos 9223372036854775807) × ((row : Row) × (row_of kinds e.1 ≡ Some row)) × ReadsFrom kinds (e.0 +ℤ pos 1) es
+abbrev pub ReadsFrom : Layout → List Column → ℤ → Es → Type 0
+ReadsFrom layout columns next [] = Unit {0}
+ReadsFrom layout columns next (e ∷ es) = (next ≤ℤ e.0) × (e.0 <ℤ pos 9223372036854775807) × ((row : Row) × (body_row layout columns e.1 ≡ Some row)) × ReadsFrom layout columns (e.0 +ℤ pos 1) es
 
 less-is : (r : Ordering) → T (is_lt r) → r ≡ Less
 less-is Less p = refl
@@ -60,41 +69,47 @@ above-all : (x : ℤ) (es : Es) → T (below_all int_cmp x es) → All (λ e. (x
 above-all x [] h = All-nil (λ (e : ℤ × List ℕ). (x +ℤ pos 1) ≤ℤ e.0)
 above-all x (e ∷ es) h = All-cons (λ (e : ℤ × List ℕ). (x +ℤ pos 1) ≤ℤ e.0) e es (behind x e.0 (less-is _ (first _ _ h))) (above-all x es (second _ _ h))
 
-reads-on : (kinds : List ColumnKind) (next : ℤ) (es : Es) → T (is_sorted int_cmp es) → All (IsRowBody kinds) es → All (λ e. e.0 <ℤ pos 9223372036854775807) es → All (λ e. next ≤ℤ e.0) es → ReadsFrom kinds next es
-reads-on kinds next [] s laid below above = tt
-reads-on kinds next (e ∷ es) s laid below above =
-    let body = (All-head (IsRowBody kinds) e es laid).body in (
+reads-on : (layout : Layout) (columns : List Column) (next : ℤ) (es : Es) → T (is_sorted int_cmp es) → All (IsBodyBy layout columns) es
+    → All (λ e. e.0 <ℤ pos 9223372036854775807) es → All (λ e. next ≤ℤ e.0) es → ReadsFrom layout columns next es
+reads-on layout columns next [] s laid below above = tt
+reads-on layout columns next (e ∷ es) s laid below above =
+    let body = (All-head (IsBodyBy layout columns) e es laid).body in (
       All-head (λ (e : ℤ × List ℕ). next ≤ℤ e.0) e es above,
       All-head (λ (e : ℤ × List ℕ). e.0 <ℤ pos 9223372036854775807) e es below,
       (body.0, body.1),
-      reads-on kinds (e.0 +ℤ pos 1) es (second _ _ s) (All-tail (IsRowBody kinds) e es laid) (All-tail (λ (e : ℤ × List ℕ). e.0 <ℤ pos 9223372036854775807) e es below) (above-all e.0 es (first _ _ s)),
+      reads-on layout columns (e.0 +ℤ pos 1) es (second _ _ s) (All-tail (IsBodyBy layout columns) e es laid) (All-tail (λ (e : ℤ × List ℕ). e.0 <ℤ pos 9223372036854775807) e es below) (above-all e.0 es (first _ _ s)),
     )
 
-pub reads-all : (kinds : List ColumnKind) (es : Es) → T (is_sorted int_cmp es) → AreReadable kinds es → ReadsFrom kinds (pos 0) es
-reads-all kinds es s h = reads-on kinds (pos 0) es s h.laid h.below (All-weaker (IsRowBody kinds) (λ (e : ℤ × List ℕ). pos 0 ≤ℤ e.0) (λ e b. b.low) es h.laid)
+pub reads-all : (layout : Layout) (columns : List Column) (es : Es) → T (is_sorted int_cmp es) → AreReadable layout columns es
+    → ReadsFrom layout columns (pos 0) es
+reads-all layout columns es s h =
+    reads-on layout columns (pos 0) es s h.laid h.below (All-weaker (IsBodyBy layout columns) (λ (e : ℤ × List ℕ). pos 0 ≤ℤ e.0) (λ e b. b.low) es h.laid)
 
 -- rows with low numbers are of bodies with low numbers
 low-int : (z : ℤ) → pos 0 ≤ℤ z → unsigned_abs z < 9223372036854775807 → z <ℤ pos 9223372036854775807
 low-int (pos k) low less = omega (arith, ints, less)
 low-int (negsuc k) low less = absurd (omega (arith, ints, low))
 
-low-bodies : (kinds : List ColumnKind) (es : Es) → All (IsRowBody kinds) es → HasLowNumbers (rows_in kinds es) → All (λ e. e.0 <ℤ pos 9223372036854775807) es
-low-bodies kinds [] laid low = All-nil (λ (e : ℤ × List ℕ). e.0 <ℤ pos 9223372036854775807)
-low-bodies kinds (e ∷ es) laid low =
-    All-cons (λ (e : ℤ × List ℕ). e.0 <ℤ pos 9223372036854775807) e es (low-int e.0 (All-head (IsRowBody kinds) e es laid).low (All-head (λ (r : Numbered). r.number < 9223372036854775807) _ (rows_in kinds es) low))
-    (low-bodies kinds es (All-tail (IsRowBody kinds) e es laid) (All-tail (λ (r : Numbered). r.number < 9223372036854775807) _ (rows_in kinds es) low))
+low-bodies : (layout : Layout) (columns : List Column) (es : Es) → All (IsBodyBy layout columns) es → HasLowNumbers (rows_by layout columns es)
+    → All (λ e. e.0 <ℤ pos 9223372036854775807) es
+low-bodies layout columns [] laid low = All-nil (λ (e : ℤ × List ℕ). e.0 <ℤ pos 9223372036854775807)
+low-bodies layout columns (e ∷ es) laid low =
+    All-cons (λ (e : ℤ × List ℕ). e.0 <ℤ pos 9223372036854775807) e es (low-int e.0 (All-head (IsBodyBy layout columns) e es laid).low (All-head (λ (r : Numbered). r.number < 9223372036854775807) _ (rows_by layout columns es) low))
+    (low-bodies layout columns es (All-tail (IsBodyBy layout columns) e es laid) (All-tail (λ (r : Numbered). r.number < 9223372036854775807) _ (rows_by layout columns es) low))
 
-pub readable : (kinds : List ColumnKind) (es : Es) → All (IsRowBody kinds) es → HasLowNumbers (rows_in kinds es) → AreReadable kinds es
-readable kinds es laid low = record { laid = laid; below = low-bodies kinds es laid low }
+pub readable : (layout : Layout) (columns : List Column) (es : Es) → All (IsBodyBy layout columns) es → HasLowNumbers (rows_by layout columns es)
+    → AreReadable layout columns es
+readable layout columns es laid low = record { laid = laid; below = low-bodies layout columns es laid low }
 
 lower : (r : Numbered) → r.number ≤ 4611686018427387904 → r.number < 9223372036854775807
 lower r h = omega (arith, h)
 
-pub sound-reads : (s : Schema) (m : BodyMap) (i : ℕ) → i < length s.tables → IsSoundTable s m i → AreReadable (kinds_at s i) (bodies_of m (table_tab i))
-sound-reads s m i l h =
-    let low : All (λ r. r.number ≤ 4611686018427387904) (table_in s m i) =
-    some-there s.tables i l (All (λ (r : Numbered). r.number ≤ 4611686018427387904) (table_in s m i)) (some-weaker (slice_get s.tables i) (λ shape. IsSoundRows shape (table_in s m i)) (λ shape. All (λ (r : Numbered). r.number ≤ 4611686018427387904) (table_in s m i)) (λ shape r. r.numbers) h.sound) in
-    readable (kinds_at s i) (bodies_of m (table_tab i)) h.laid (All-weaker (λ (r : Numbered). r.number ≤ 4611686018427387904) (λ (r : Numbered). r.number < 9223372036854775807) lower (table_in s m i) low)
+pub sound-reads : (layout : Layout) (s : Schema) (m : BodyMap) (i : ℕ) → i < length s.tables → IsSoundTable layout s m i
+    → AreReadable layout (columns_at s i) (bodies_of m (table_tab i))
+sound-reads layout s m i l h =
+    let low : All (λ r. r.number ≤ 4611686018427387904) (table_by layout s m i) =
+    some-there s.tables i l (All (λ (r : Numbered). r.number ≤ 4611686018427387904) (table_by layout s m i)) (some-weaker (slice_get s.tables i) (λ shape. IsSoundRows shape (table_by layout s m i)) (λ shape. All (λ (r : Numbered). r.number ≤ 4611686018427387904) (table_by layout s m i)) (λ shape r. r.numbers) h.sound) in
+    readable layout (columns_at s i) (bodies_of m (table_tab i)) h.laid (All-weaker (λ (r : Numbered). r.number ≤ 4611686018427387904) (λ (r : Numbered). r.number < 9223372036854775807) lower (table_by layout s m i) low)
 
 -- ---- next numbers
 
@@ -116,7 +131,8 @@ not-numbered body b e none h =
 pub same-number : (body : Option (List ℕ)) (n k : ℤ) → IsNumber body n → IsNumber body k → n ≡ k
 same-number body n k h q = some-same n k (sym h.2 ∙ ap number_of (some-same _ _ (sym h.1 ∙ q.1)) ∙ q.2)
 
-pub drawn-number : (body : Option (List ℕ)) (b : List ℕ) (n : ℤ) → body ≡ Some b → number_of b ≡ Some n → IsDrawable body → (pos 1 ≤ℤ n) × (n <ℤ pos 9223372036854775807)
+pub drawn-number : (body : Option (List ℕ)) (b : List ℕ) (n : ℤ) → body ≡ Some b → number_of b ≡ Some n → IsDrawable body
+    → (pos 1 ≤ℤ n) × (n <ℤ pos 9223372036854775807)
 drawn-number body b n e is h =
     let same : h.0 ≡ n = same-number body h.0 n h.1 (b, e, is) in
     (subst (λ (z : ℤ). pos 1 ≤ℤ z) same h.2, subst (λ (z : ℤ). z <ℤ pos 9223372036854775807) same h.3)
@@ -132,22 +148,25 @@ sound-number m i n is h = subst (λ (z : ℤ). z ≤ℤ pos 4611686018427387904)
 
 -- ---- the tables and sequences of a sound store
 
-unzip-range : {A B : Type 0} (R : A → B → Type 0) (f : ℕ → B) (xs : List A) (k i : ℕ) → AllZip R xs (map f (range_with_len k (length xs))) → IfSome (slice_get xs i) (λ x. R x (f (k + i)))
+unzip-range : {A B : Type 0} (R : A → B → Type 0) (f : ℕ → B) (xs : List A) (k i : ℕ) → AllZip R xs (map f (range_with_len k (length xs)))
+    → IfSome (slice_get xs i) (λ x. R x (f (k + i)))
 unzip-range R f [] k i h = tt
 unzip-range R f (x ∷ xs) k zero h = subst (λ (j : ℕ). R x (f j)) (sym (from-here k)) h.0
 unzip-range {A} R f (x ∷ xs) k (suc i) h = subst (λ (j : ℕ). IfSome (slice_get xs i) (λ (y : A). R y (f j))) (sym (shift k i)) (unzip-range R f xs (k + 1) i h.1)
 
-unzip-all : {A B : Type 0} (R : A → B → Type 0) (f : ℕ → B) (xs : List A) (i : ℕ) → AllZip R xs (map f (range_with_len 0 (length xs))) → IfSome (slice_get xs i) (λ x. R x (f i))
+unzip-all : {A B : Type 0} (R : A → B → Type 0) (f : ℕ → B) (xs : List A) (i : ℕ) → AllZip R xs (map f (range_with_len 0 (length xs)))
+    → IfSome (slice_get xs i) (λ x. R x (f i))
 unzip-all {A} R f xs i h = subst (λ (j : ℕ). IfSome (slice_get xs i) (λ (x : A). R x (f j))) (from-zero i) (unzip-range R f xs 0 i h)
 
-module _ (s : Schema) (m : BodyMap) (h : IsSoundStore s m) where
-  pub sound-table : (i : ℕ) → i < length s.tables → IsSoundTable s m i
+module _ (layout : Layout) (s : Schema) (m : BodyMap) (h : IsSoundStore layout s m) where
+  pub sound-table : (i : ℕ) → i < length s.tables → IsSoundTable layout s m i
   sound-table i l =
-      let low : All (λ r. r.number ≤ 4611686018427387904) (table_in s m i) = unall-range (All (λ (r : Numbered). r.number ≤ 4611686018427387904)) (table_in s m) (length s.tables) i l h.sound.numbers.rows in
+      let low : All (λ r. r.number ≤ 4611686018427387904) (table_by layout s m i) = unall-range (All (λ (r : Numbered). r.number ≤ 4611686018427387904)) (table_by layout s m) (length s.tables) i l h.sound.numbers.rows in
       record {
         laid = h.laid.tables i l;
-        fits = unzip-all AreRowsOf (table_in s m) s.tables i h.sound.fits.tables;
-        sound = some-weaker (slice_get s.tables i) (λ shape. MayCommitTable shape (table_in s m i)) (λ shape. IsSoundRows shape (table_in s m i)) (λ shape c. record { commits = c; numbers = low }) (unzip-all MayCommitTable (table_in s m) s.tables i h.sound.commits);
+        fits = unzip-all AreRowsOf (table_by layout s m) s.tables i h.sound.fits.tables;
+        sound =
+            some-weaker (slice_get s.tables i) (λ shape. MayCommitTable shape (table_by layout s m i)) (λ shape. IsSoundRows shape (table_by layout s m i)) (λ shape c. record { commits = c; numbers = low }) (unzip-all MayCommitTable (table_by layout s m) s.tables i h.sound.commits);
       }
 
   pub sound-sequence : (i : ℕ) → i < length s.sequences → IsSoundSequence m i

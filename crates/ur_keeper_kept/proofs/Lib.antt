@@ -7,9 +7,13 @@ pub mod Attaching
 pub mod Finding
 pub mod Faulty
 pub mod Ends
+pub mod GrowingStores
+pub mod Growth
 pub mod KeptRows
 pub mod Loops
 pub mod Low
 pub mod Numbers
+pub mod Renewal
 pub mod Within
 pub mod Telling
+pub mod Texts

@@ -62,7 +62,8 @@ pub low-put : (s : Schema) (m : BodyMap) (tab z : ℤ) (v : List ℕ) → IsLowP
 low-put s m tab z v h low i n l there =
     either (eq_by_cmp place_cmp (table_tab i, pos n) (tab, z)) refl (subst (λ (o : Option (List ℕ)). IsTrue (is_some o)) (get-insert place_total m (tab, z) v (table_tab i, pos n)) there)
   where
-    either : (b : Bool) → eq_by_cmp place_cmp (table_tab i, pos n) (tab, z) ≡ b → IsTrue (is_some (cond b (Some v) (body_at m (table_tab i) (pos n)))) → n < 9223372036854775808
+    either : (b : Bool) → eq_by_cmp place_cmp (table_tab i, pos n) (tab, z) ≡ b → IsTrue (is_some (cond b (Some v) (body_at m (table_tab i) (pos n))))
+        → n < 9223372036854775808
     either true e t =
         let same : (tab, z) ≡ (table_tab i, pos n) = place-is (table_tab i, pos n) (tab, z) e in
         h i n l (ap (λ (p : Place). p.0) same) (ap (λ (p : Place). p.1) same)

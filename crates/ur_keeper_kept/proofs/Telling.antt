@@ -15,7 +15,8 @@ text-tells : (m : BodyMap) (text : Option (List ℕ)) → TellsStore (found_in m
 text-tells m None = refl
 text-tells m (Some text) = tt
 
-pub tells-store : (first : Bool) (told : Option BodyMap) (schema : Option Schema) → (first ≡ true → IsSome told) → first ≡ true → TellsStore (kept_in first told schema) (saved_in first told schema)
+pub tells-store : (first : Bool) (told : Option BodyMap) (schema : Option Schema) → (first ≡ true → IsSome told) → first ≡ true
+    → TellsStore (kept_in first told schema) (saved_in first told schema)
 tells-store first None schema law is = absurd (false≢true (law is))
 tells-store first (Some m) (Some schema) law is = refl
 tells-store true (Some m) None law is = text-tells m (text_at m)
@@ -25,7 +26,8 @@ text-none : (m : BodyMap) (text : Option (List ℕ)) (kept : KeptSchema) → IsR
 text-none m None kept = tt
 text-none m (Some text) kept = tt
 
-pub reopens : (first : Bool) (told : Option BodyMap) (schema : Option Schema) (pending : Pending) → IsGoodFor schema told pending → first ≡ true → IsReopened (kept_in first told schema) (saved_in first told schema) (kept_in first told None)
+pub reopens : (first : Bool) (told : Option BodyMap) (schema : Option Schema) (pending : Pending) → IsGoodFor schema told pending → first ≡ true
+    → IsReopened (kept_in first told schema) (saved_in first told schema) (kept_in first told None)
 reopens false told schema pending good is = absurd (false≢true is)
 reopens true None None pending good is = tt
 reopens true (Some m) None pending good is = text-none m (text_at m) (found_in m (text_at m))

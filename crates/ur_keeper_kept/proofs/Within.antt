@@ -9,7 +9,8 @@ use Rattle.ur_values.specs.declared.schema.Numbered.{Numbered}
 use Rattle.ur_values.specs.Numbered.{next_number}
 use Rattle.ur_keeper.specs.Tables.{HasNextNumber, HasNextDraw, HasRowAt, table_at, sequence_at}
 use Rattle.ur_keeper_bodies.specs.Bodies.{BodyMap, body_at, bodies_of, written}
-use Rattle.ur_keeper_kept.specs.Laid.{table_tab, kinds_at, number_in, number_of_body, tables_in}
+use Rattle.ur_keeper_bodies.specs.declared.stored.Layout.TheVariants as layouts
+use Rattle.ur_keeper_kept.specs.Laid.{table_tab, columns_at, number_in, number_of_body, tables_in}
 use Rattle.ur_keeper_kept.proofs.Rows.{fold-least}
 use Rattle.ur_keeper_kept.proofs.LaidLaws.{table-there}
 use Rattle.ur_keeper_kept.specs.declared.pending.Pending.{Pending}
@@ -22,11 +23,12 @@ use Rattle.ur_keeper_kept.proofs.Steps.{is-there}
 -- ---- rows
 
 -- the current table has a row with the greatest number, where it does not read
-pub unread-now : (s : Schema) (told : Option BodyMap) (p : Pending) (i : ℕ) → i < length s.tables → WhereTold told (λ m. IsPending s m p) → WhereTold told (λ m. AreReadable (kinds_at s i) (bodies_of (written m p.changes) (table_tab i)) → ⊥)
+pub unread-now : (s : Schema) (told : Option BodyMap) (p : Pending) (i : ℕ) → i < length s.tables → WhereTold told (λ m. IsPending s m p)
+    → WhereTold told (λ m. AreReadable layouts.Two (columns_at s i) (bodies_of (written m p.changes) (table_tab i)) → ⊥)
     → WhereTold (option_map (tables_in s) (with_changes p.changes told)) (λ t. HasLowNumbers (table_at t i) → ⊥)
 unread-now s None p i l good h = tt
 unread-now s (Some m) p i l good h = λ low.
-    h (readable (kinds_at s i) (bodies_of (written m p.changes) (table_tab i)) (good.good.current.tables i l) (subst (λ (rows : List Numbered). HasLowNumbers rows) (table-there s (written m p.changes) i l) low))
+    h (readable layouts.Two (columns_at s i) (bodies_of (written m p.changes) (table_tab i)) (good.good.current.tables i l) (subst (λ (rows : List Numbered). HasLowNumbers rows) (table-there s (written m p.changes) i l) low))
 
 below-all : (a : ℕ) (rows : List Numbered) → All (λ r. r.number < fold max a (map (λ r. r.number + 1) rows)) rows
 below-all a [] = All-nil (λ (r : Numbered). r.number < a)
@@ -35,20 +37,23 @@ below-all a (r ∷ rows) =
     All-cons (λ (x : Numbered). x.number < most) r rows (omega (arith, fold-least (max a (r.number + 1)) (map (λ (r : Numbered). r.number + 1) rows))) (below-all (max a (r.number + 1)) rows)
 
 low-below : (rows : List Numbered) → next_number rows ≤ 9223372036854775807 → HasLowNumbers rows
-low-below rows h = All-weaker (λ (r : Numbered). r.number < next_number rows) (λ (r : Numbered). r.number < 9223372036854775807) (λ r l. less r.number (next_number rows) l h) rows (below-all 0 rows)
+low-below rows h =
+    All-weaker (λ (r : Numbered). r.number < next_number rows) (λ (r : Numbered). r.number < 9223372036854775807) (λ r l. less r.number (next_number rows) l h) rows (below-all 0 rows)
   where
     less : (n k : ℕ) → n < k → k ≤ 9223372036854775807 → n < 9223372036854775807
     less n k l h = omega (arith, l, h)
 
 -- and with room for one more number it reads
-pub room-reads : (s : Schema) (told : Option BodyMap) (p : Pending) (i : ℕ) → i < length s.tables → WhereTold told (λ m. IsPending s m p) → WhereTold (option_map (tables_in s) (with_changes p.changes told)) (HasNextNumber i)
-    → WhereTold told (λ m. AreReadable (kinds_at s i) (bodies_of (written m p.changes) (table_tab i)) → ⊥) → WhereTold told (λ m. ⊥)
+pub room-reads : (s : Schema) (told : Option BodyMap) (p : Pending) (i : ℕ) → i < length s.tables → WhereTold told (λ m. IsPending s m p)
+    → WhereTold (option_map (tables_in s) (with_changes p.changes told)) (HasNextNumber i)
+    → WhereTold told (λ m. AreReadable layouts.Two (columns_at s i) (bodies_of (written m p.changes) (table_tab i)) → ⊥) → WhereTold told (λ m. ⊥)
 room-reads s None p i l good room h = tt
 room-reads s (Some m) p i l good room h =
     unread-now s (Some m) p i l good h (low-below (table_at (tables_in s (written m p.changes)) i) room)
 
 -- a row that is there has a number below 2^63
-pub row-low : (s : Schema) (told : Option BodyMap) (p : Pending) (i n : ℕ) → i < length s.tables → WhereTold told (λ m. IsPending s m p) → WhereTold (option_map (tables_in s) (with_changes p.changes told)) (HasRowAt i n)
+pub row-low : (s : Schema) (told : Option BodyMap) (p : Pending) (i n : ℕ) → i < length s.tables → WhereTold told (λ m. IsPending s m p)
+    → WhereTold (option_map (tables_in s) (with_changes p.changes told)) (HasRowAt i n)
     → 9223372036854775808 ≤ n → WhereTold told (λ m. ⊥)
 row-low s None p i n l good there high = tt
 row-low s (Some m) p i n l good there high =
@@ -63,11 +68,13 @@ sequence-there s m q l = get_or-map-range_with_len (number_in m) 0 (length s.seq
 number-of : (m : BodyMap) (q : ℕ) (n : ℤ) → IsNumber (body_at m (pos 1) (pos q)) n → number_in m q ≡ n
 number-of m q n h = ap number_of_body h.1 ∙ ap (λ o. unwrap_or o (pos 1)) h.2
 
-low-draw : (s : Schema) (m : BodyMap) (q : ℕ) (n : ℤ) → q < length s.sequences → IsNumber (body_at m (pos 1) (pos q)) n → HasNextDraw q (tables_in s m) → n <ℤ pos 9223372036854775807
+low-draw : (s : Schema) (m : BodyMap) (q : ℕ) (n : ℤ) → q < length s.sequences → IsNumber (body_at m (pos 1) (pos q)) n → HasNextDraw q (tables_in s m)
+    → n <ℤ pos 9223372036854775807
 low-draw s m q n l is room = subst (λ (z : ℤ). z <ℤ pos 9223372036854775807) (sequence-there s m q l ∙ number-of m q n is) room
 
 -- a sequence that may be drawn from has a next number
-pub room-draws : (s : Schema) (told : Option BodyMap) (p : Pending) (q : ℕ) → q < length s.sequences → WhereTold told (λ m. IsPending s m p) → WhereTold (option_map (tables_in s) (with_changes p.changes told)) (HasNextDraw q)
+pub room-draws : (s : Schema) (told : Option BodyMap) (p : Pending) (q : ℕ) → q < length s.sequences → WhereTold told (λ m. IsPending s m p)
+    → WhereTold (option_map (tables_in s) (with_changes p.changes told)) (HasNextDraw q)
     → WhereTold told (λ m. IsDrawable (body_at (written m p.changes) (pos 1) (pos q)) → ⊥) → WhereTold told (λ m. ⊥)
 room-draws s None p q l good room h = tt
 room-draws s (Some m) p q l good room h =
@@ -76,7 +83,8 @@ room-draws s (Some m) p q l good room h =
     h (body.1, is, body.4, low-draw s (written m p.changes) q body.1 l is room)
 
 -- and the one that the last draw left is not the greatest
-pub draws-on : (s : Schema) (told : Option BodyMap) (p : Pending) (q : ℕ) (n : ℤ) → q < length s.sequences → WhereTold told (λ m. IsPending s m p) → WhereTold (option_map (tables_in s) (with_changes p.changes told)) (HasNextDraw q)
+pub draws-on : (s : Schema) (told : Option BodyMap) (p : Pending) (q : ℕ) (n : ℤ) → q < length s.sequences → WhereTold told (λ m. IsPending s m p)
+    → WhereTold (option_map (tables_in s) (with_changes p.changes told)) (HasNextDraw q)
     → n ≡ get_or p.drawn q (pos 0) → pos 1 ≤ℤ n → (n <ℤ pos 9223372036854775807 → ⊥) → WhereTold told (λ m. ⊥)
 draws-on s None p q n l good room e low h = tt
 draws-on s (Some m) p q n l good room e low h =

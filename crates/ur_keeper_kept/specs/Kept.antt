@@ -2,18 +2,19 @@
 use Rattle.std.specs.Prelude.{◌≡◌, ℕ, ◌<◌, ℤ, pos, ◌≤ℤ◌, Bool, true, false, List, [], length, get_or, Option, Some, None, IsSome, IsTrue, is_some, option_map, if◌then◌else◌, refl, All}
 use Rattle.std.specs.Coded.{Coded, code_by, coded×, coded_ℕ, coded_bool, coded_option}
 use Rattle.ur_base.specs.Told.{WhereTold}
-use Rattle.ur_values.specs.declared.schema.ColumnKind.{ColumnKind}
 use Rattle.ur_values.specs.declared.schema.Numbered.{Numbered}
 use Rattle.ur_values.specs.declared.schema.Schema.{Schema}
 use Rattle.ur_values.specs.contracts.schema.Schema as schemas
 use Rattle.ur_values.specs.Numbered.{next_number, HaveRisingNumbers}
-use Rattle.ur_values.specs.SchemaText.{schema_text}
 use Rattle.ur_keeper.specs.Tables.{Tables, KeptSchema, Untold, Empty, Keeps, Spells}
 use Rattle.ur_keeper.specs.Memory.{no_tables}
 use Rattle.ur_keeper_bodies.specs.declared.bodies.BodyChange.{BodyChange}
 use Rattle.ur_keeper_bodies.specs.Bodies.{BodyMap, body_at, written, CanWrite}
-use Rattle.ur_keeper_bodies.specs.Rows.{kinds_in, number_of}
-use Rattle.ur_keeper_kept.specs.Laid.{table_tab, rows_in, table_in, tables_in, text_at, IsRowBody, IsLaid}
+use Rattle.ur_keeper_bodies.specs.declared.stored.Layout.{Layout}
+use Rattle.ur_keeper_bodies.specs.Rows.{number_of}
+use Rattle.ur_keeper_bodies.specs.Columns.{Column}
+use Rattle.ur_keeper_bodies.specs.Stored.{stored_text, parted}
+use Rattle.ur_keeper_kept.specs.Laid.{table_tab, rows_by, table_in, tables_in, tables_by, text_at, IsBodyBy, IsLaid, HasShortNames}
 use Rattle.ur_keeper_kept.specs.declared.pending.Pending.{Pending}
 use Rattle.ur_keeper_kept.specs.contracts.pending.Pending as pendings
 
@@ -39,10 +40,10 @@ no_changes = record { changes = []; seen = None; drawn = [] }
 
 -- ---- what it tells; `first` says whether the bodies are told from the start on
 
--- a store with this text, or without one
+-- a store with this text, which tells the layout of its rows, or without one
 abbrev pub found_in : BodyMap → Option (List ℕ) → KeptSchema
 found_in m None = Empty
-found_in m (Some text) = Spells text (λ schema. tables_in schema m)
+found_in m (Some stored) = Spells (parted stored).1 (λ schema. tables_by (parted stored).0 schema m)
 
 abbrev pub kept_in : Bool → Option BodyMap → Option Schema → KeptSchema
 kept_in first told (Some schema) = Keeps schema
@@ -82,12 +83,13 @@ current_of first told k = current_in (first k.bodies) (told k.bodies) k.schema k
 abbrev pub AreLow : Schema → BodyMap → Type 0
 AreLow schema m = (i n : ℕ) → i < length schema.tables → IsTrue (is_some (body_at m (table_tab i) (pos n))) → n < 9223372036854775808
 
--- the kept text is the schema's, and the tables read, with low numbers, before and after the changes
+-- the kept text is the schema's in the second layout, and the tables read, with low numbers, before and after the changes
 pub record IsGood (schema : Schema) (m : BodyMap) (changes : List BodyChange) : Type 0 where
-  pub text : text_at m ≡ Some (schema_text schema)
+  pub short : HasShortNames schema
+  pub text : text_at m ≡ Some (stored_text schema)
   pub saved : IsLaid schema m
   pub fits : CanWrite m changes
-  pub text_stays : text_at (written m changes) ≡ Some (schema_text schema)
+  pub text_stays : text_at (written m changes) ≡ Some (stored_text schema)
   pub current : IsLaid schema (written m changes)
   pub low : AreLow schema m
   pub stays_low : AreLow schema (written m changes)
@@ -126,9 +128,9 @@ pub record IsChanged (schema : Schema) (f : Tables → Tables) (m : BodyMap) (ol
   pub pending : IsPending schema m new
   pub tables : tables_in schema (written m new.changes) ≡ f (tables_in schema (written m old.changes))
 
--- the rows that these bodies are read as, and the next number
-pub record AreRead (columns : List (List ℕ × ColumnKind)) (entries : List (ℤ × List ℕ)) (rows : List Numbered) (next : ℤ) : Type 0 where
-  pub read : rows ≡ rows_in (kinds_in columns) entries
-  pub laid : All (IsRowBody (kinds_in columns)) entries
+-- the rows that these bodies are read as in a layout, and the next number
+pub record AreRead (layout : Layout) (columns : List Column) (entries : List (ℤ × List ℕ)) (rows : List Numbered) (next : ℤ) : Type 0 where
+  pub read : rows ≡ rows_by layout columns entries
+  pub laid : All (IsBodyBy layout columns) entries
   pub rising : HaveRisingNumbers rows
   pub last : next ≡ pos (next_number rows)

@@ -1,6 +1,9 @@
-pub mod Changes
-pub mod Laid
 pub mod Attach
+pub mod Changes
 pub mod Faults
+pub mod First
+pub mod Grown
 pub mod Kept
+pub mod Laid
 pub mod Laws
+pub mod Rewriting

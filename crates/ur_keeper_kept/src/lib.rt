@@ -2,10 +2,13 @@
 #![tactic(auto)]
 
 mod attach;
+mod checking;
+mod growing;
 mod kept;
 mod laws;
 mod pending;
 mod reading;
+mod starting;
 mod stock;
 mod work;
 

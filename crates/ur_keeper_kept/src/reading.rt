@@ -1,16 +1,16 @@
 //! The rows of a table from their bodies.
-ghost use Rattle.std.specs.Prelude.{◌≡◌, ◌+◌, pos, ◌&&◌, cond, T, Some, None, IfOk, OnOk, IfSome, IfNone};
+ghost use Rattle.std.specs.Prelude.{◌≡◌, ◌+◌, ◌<◌, length, pos, ◌&&◌, cond, T, Some, None, IfOk, OnOk, IfSome, IfNone};
 ghost use Rattle.std.specs.Ordering.{int_cmp, int_eq};
 ghost use Rattle.std.specs.FinMap.{is_sorted};
-ghost use Rattle.ur_keeper_bodies.specs.Rows.{kinds_in};
 ghost use Rattle.ur_keeper_bodies.specs.Bodies.{BodyMap, body_at, written_one, written};
+ghost use Rattle.ur_keeper_kept.specs.Laid.{columns_at};
 ghost use Rattle.ur_keeper_kept.specs.Kept.{AreRead};
 ghost use Rattle.ur_keeper_kept.specs.Faults.{AreReadable};
 
 use std::alloc::Global;
-use ur_base::{Bytes, List, Memory, Text};
-use ur_keeper_bodies::{BodyChange, read_row};
-use ur_values::{ColumnKind, Numbered};
+use ur_base::{Bytes, List, Memory, Shared, Text};
+use ur_keeper_bodies::{BodyChange, Layout, read_body};
+use ur_values::{ColumnKind, Numbered, Schema};
 
 /// Rows, and the number that comes next.
 #[derive(Drop)]
@@ -19,14 +19,15 @@ pub(crate) struct Found {
     pub(crate) next: i64,
 }
 
-/// The rows of these bodies, or None where one is none of a row of these columns or the numbers do not rise from 0.
+/// The rows of these bodies in this layout, or None where one is none of a row of these columns or the numbers do not rise from 0.
 pub(crate) fn read_rows(
     alloc: Global,
+    layout: Layout,
     columns: &[(Text, ColumnKind)],
     entries: &[(i64, Bytes)],
 ) -> Result<Option<Found>, Memory>
-    ensures read { IfOk result (λ found. IfSome found (λ f. AreRead columns.now entries.now f.rows f.next)) }
-    ensures unread { IfOk result (λ found. IfNone found (T (is_sorted int_cmp entries.now) → AreReadable (kinds_in columns.now) entries.now → ⊥)) }
+    ensures read { IfOk result (λ found. IfSome found (λ f. AreRead layout columns.now entries.now f.rows f.next)) }
+    ensures unread { IfOk result (λ found. IfNone found (T (is_sorted int_cmp entries.now) → AreReadable layout columns.now entries.now → ⊥)) }
 {
     let mut rows: List<Numbered> = List::new(alloc);
     let mut next: i64 = 0;
@@ -37,12 +38,13 @@ pub(crate) fn read_rows(
         if entry.0 == i64::MAX {
             return Ok(None);
         }
-        let Some(row) = read_row(alloc, columns, entry.1.as_slice())? else {
+        let Some(row) = read_body(alloc, layout, columns, entry.1.as_slice())? else {
             return Ok(None);
         };
+        let shared = Shared::new(alloc, row)?;
         rows.push(Numbered {
             number: entry.0 as u64,
-            row,
+            row: shared,
         })?;
         next = entry.0 + 1;
     }
@@ -54,6 +56,14 @@ pub(crate) fn table_tab(table: u32) -> i64
     ensures { result ≡ pos (2 + table) }
 {
     i64::from(table) + 2
+}
+
+/// The columns of a table.
+pub(crate) fn columns_at(schema: &Schema, table: usize) -> &[(Text, ColumnKind)]
+    requires { table < length schema.now.tables }
+    ensures { result.now ≡ columns_at schema.now table }
+{
+    schema.tables.as_slice()[table].columns.as_slice()
 }
 
 /// A body after a change of the map.

@@ -6,41 +6,44 @@ ghost use Rattle.ur_values.specs.Numbered.{next_number};
 ghost use Rattle.ur_keeper.specs.Tables.{Keeps, HasNextNumber, HasNextDraw, HasRowAt, AreRowsOf, table_at, sequence_at, inserted, replaced, removed, drawn};
 ghost use Rattle.ur_keeper.specs.Keeper.{IsRowOf};
 ghost use Rattle.ur_keeper_bodies.specs.Bodies.{BodyMap, IsOpened, body_at, bodies_of, written};
-ghost use Rattle.ur_keeper_kept.specs.Laid.{table_tab, columns_of, kinds_at, table_in, tables_in};
+ghost use Rattle.ur_keeper_kept.specs.Laid.{table_tab, columns_at, table_in, tables_in};
 ghost use Rattle.ur_keeper_kept.specs.Faults.{Finds, AreReadable, IsDrawable, HasLowNumbers};
 ghost use Rattle.ur_keeper_kept.specs.Kept.{with_changes, IsPending, IsChanged, AreRead, IsNumber};
 
 use crate::pending::Pending;
-use crate::reading::{Found, change_body, read_rows, table_tab};
+use crate::reading::{Found, change_body, columns_at, read_rows, table_tab};
 use crate::stock::Stock;
 use std::alloc::Global;
 use ur_base::{Bytes, List, Memory};
 use ur_keeper::KeeperEnd;
-use ur_keeper_bodies::{Bodies, BodyChange, bodies_after, number_bytes, read_number, row_bytes};
+use ur_keeper_bodies::{
+    Bodies, BodyChange, Layout, bodies_after, columns_bytes, number_bytes, read_number,
+};
 use ur_values::{Numbered, Row, Schema};
 
-/// The rows of a table under these changes.
+/// The rows of a table in this layout, under these changes.
 pub(crate) fn rows_now<B: Bodies>(
     alloc: Global,
     stock: &mut Stock<B>,
+    layout: Layout,
     schema: &Schema,
     table: u32,
     changes: &[BodyChange],
 ) -> Result<Found, KeeperEnd>
     requires opened { B.opened stock.old.bodies ≡ true }
     requires table { table < length schema.now.tables }
-    ensures read { IfOk result (λ f. WhereTold (B.bodies stock.old.bodies) (λ m. AreRead (columns_of (slice_get schema.now.tables table)) (bodies_of (written m changes.now) (table_tab table)) f.rows f.next)) }
+    ensures read { IfOk result (λ f. WhereTold (B.bodies stock.old.bodies) (λ m. AreRead layout (columns_at schema.now table) (bodies_of (written m changes.now) (table_tab table)) f.rows f.next)) }
     ensures shaped { IfOk result (λ f. IfSome (slice_get schema.now.tables table) (λ shape. AreRowsOf shape f.rows)) }
     ensures same { IsOpened (B.bodies stock.old.bodies) (B.bodies stock.new.bodies) (B.opened stock.new.bodies) }
     ensures first { B.tells_at_first stock.new.bodies ≡ B.tells_at_first stock.old.bodies }
-    ensures found { Finds result stock.old.found stock.new.found (B.bodies stock.old.bodies) (λ m. AreReadable (kinds_at schema.now table) (bodies_of (written m changes.now) (table_tab table)) → ⊥) }
+    ensures found { Finds result stock.old.found stock.new.found (B.bodies stock.old.bodies) (λ m. AreReadable layout (columns_at schema.now table) (bodies_of (written m changes.now) (table_tab table)) → ⊥) }
     ensures cause { HasCause KeeperEnd.Failed (B.faults stock.old.bodies + stock.old.found) (B.faults stock.new.bodies + stock.new.found) result }
 {
     let tab = table_tab(table);
     let entries = stock.read(tab)?;
     let entries = bodies_after(alloc, tab, entries, changes)?;
     let columns = schema.tables.as_slice()[table as usize].columns.as_slice();
-    let rows = read_rows(alloc, columns, entries.as_slice())?;
+    let rows = read_rows(alloc, layout, columns, entries.as_slice())?;
     match rows {
         Some(found) => Ok(found),
         None => Err(stock.fault()),
@@ -67,7 +70,14 @@ pub(crate) fn scan_rows<B: Bodies>(
     ensures found { Finds result stock.old.found stock.new.found (option_map (tables_in schema.now) (with_changes pending.old.changes (B.bodies stock.old.bodies))) (λ t. HasLowNumbers (table_at t table) → ⊥) }
     ensures cause { HasCause KeeperEnd.Failed (B.faults stock.old.bodies + stock.old.found) (B.faults stock.new.bodies + stock.new.found) result }
 {
-    let found = rows_now(alloc, stock, schema, table, pending.changes.as_slice())?;
+    let found = rows_now(
+        alloc,
+        stock,
+        Layout::Two,
+        schema,
+        table,
+        pending.changes.as_slice(),
+    )?;
     pending.see(table, found.next);
     Ok(found.rows)
 }
@@ -95,7 +105,14 @@ fn next_row<B: Bodies>(
             return Ok(next);
         }
     }
-    let found = rows_now(alloc, stock, schema, table, pending.changes.as_slice())?;
+    let found = rows_now(
+        alloc,
+        stock,
+        Layout::Two,
+        schema,
+        table,
+        pending.changes.as_slice(),
+    )?;
     Ok(found.next)
 }
 
@@ -120,7 +137,8 @@ pub(crate) fn insert_row<B: Bodies>(
     ensures cause { HasCause KeeperEnd.Failed (B.faults stock.old.bodies + stock.old.found) (B.faults stock.new.bodies + stock.new.found) result }
 {
     let number = next_row(alloc, stock, schema, table, pending)?;
-    let body = row_bytes(alloc, row)?;
+    let columns = columns_at(schema, table as usize);
+    let body = columns_bytes(alloc, columns, row)?;
     let seen = seen_after(table, number);
     pending.add(BodyChange::Add(table_tab(table), number, body), seen)?;
     Ok(())
@@ -160,7 +178,8 @@ pub(crate) fn replace_row<B: Bodies>(
     let Ok(place) = i64::try_from(number) else {
         return Err(stock.fault());
     };
-    let body = row_bytes(alloc, row)?;
+    let columns = columns_at(schema, table as usize);
+    let body = columns_bytes(alloc, columns, row)?;
     pending.add(BodyChange::Put(table_tab(table), place, body), None)?;
     Ok(())
 }

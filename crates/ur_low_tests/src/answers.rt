@@ -1,5 +1,5 @@
 use std::alloc::Global;
-use ur_base::{List, Memory};
+use ur_base::{List, Memory, Shared};
 use ur_cache::{Cache, Settle, fits};
 use ur_cacheindex::Mask;
 use ur_values::{Atom, Value};
@@ -32,7 +32,13 @@ fn masks_of(
 }
 
 /// Keeps an answer where it may be kept: whether it was.
-fn keep(cache: &mut Cache, site: u32, key: List<Atom>, rows: List<Value>) -> Result<bool, Memory> {
+fn keep(
+    alloc: Global,
+    cache: &mut Cache,
+    site: u32,
+    key: List<Atom>,
+    rows: List<Value>,
+) -> Result<bool, Memory> {
     if cache.masked(site, key.as_slice()) {
         return Ok(false);
     }
@@ -42,6 +48,7 @@ fn keep(cache: &mut Cache, site: u32, key: List<Atom>, rows: List<Value>) -> Res
     if !fits(key.as_slice(), rows.as_slice()) {
         return Ok(false);
     }
+    let rows = Shared::new(alloc, rows)?;
     cache.put(site, key, rows)?;
     Ok(true)
 }
@@ -52,7 +59,7 @@ fn ask(alloc: Global, cache: &mut Cache, n: i64) -> Result<bool, Memory> {
     if cache.lookup(1, key.as_slice()).is_some() {
         return Ok(true);
     }
-    keep(cache, 1, key, rows_of(alloc, n)?)?;
+    keep(alloc, cache, 1, key, rows_of(alloc, n)?)?;
     Ok(false)
 }
 

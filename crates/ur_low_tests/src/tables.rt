@@ -1,6 +1,6 @@
 //! Changes of tables that are full.
 use std::alloc::Global;
-use ur_base::{List, Memory};
+use ur_base::{List, Memory, Shared};
 use ur_sql::{Action, Planned, Scalar, plan_action};
 use ur_values::{Numbered, Value};
 
@@ -8,7 +8,7 @@ use ur_values::{Numbered, Value};
 fn empty_rows(alloc: Global, count: u64) -> Result<List<Numbered>, Memory> {
     let mut rows = List::new(alloc);
     for number in 0..count {
-        let row = List::new(alloc);
+        let row = Shared::new(alloc, List::new(alloc))?;
         rows.push(Numbered { number, row })?;
     }
     Ok(rows)

@@ -1,6 +1,6 @@
 //! Sizes, nestings, copies and texts of values, rows and schemas.
 use std::alloc::Global;
-use ur_base::{Boxed, List, Memory, Name, Text};
+use ur_base::{Boxed, List, Memory, Name, Shared, Text};
 use ur_values::{Call, ColumnKind, Node, Numbered, Schema, TableShape, Tag, Value};
 
 fn only<T: Drop>(alloc: Global, element: T) -> Result<List<T>, Memory> {
@@ -111,9 +111,10 @@ fn has_atom(alloc: Global, bytes: &[u8]) -> Result<bool, Memory> {
 fn has_copy(alloc: Global, number: u64) -> Result<bool, Memory> {
     let mut row = List::new(alloc);
     row.push(Value::Int(5))?;
+    let row = Shared::new(alloc, row)?;
     let row = Numbered { number, row };
     let copy = row.copy(alloc)?;
-    Ok(copy.number == number && copy.row.len() == 1)
+    Ok(copy.number == number && copy.row.get().len() == 1)
 }
 
 #[test]

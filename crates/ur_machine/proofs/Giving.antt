@@ -1,12 +1,16 @@
 -- What an operation on tables gives.
-use Rattle.std.specs.Prelude.{◌↔◌, IsTrue}
-use Rattle.std.proofs.Common.{Bool, true, false, ◌≡◌, ◌≢◌, List, [], ◌∷◌, ◌++◌, codes, Result, Ok, Err, refl, ap, ◌∙◌}
+use Rattle.std.proofs.Common.{◌≡◌, ℕ, ◌+◌, ◌<◌, ◌≤◌, min, List, [], ◌∷◌, length, take, leb, ◌&&◌, codes, Result, Ok, Err, refl, sym, ap, ◌∙◌, arith}
+use Rattle.std.proofs.lemmas.Bool.{le-leb, lt-leb}
+use Rattle.std.proofs.lemmas.Bool.Decides.{nat_tests}
+use Rattle.std.proofs.lemmas.List.{take_all}
 use Rattle.ur_values.specs.declared.value.Value.{Value}
 use Rattle.ur_values.specs.declared.value.Value.TheVariants as v
 use Rattle.ur_values.specs.Atom.{IsBasic}
+use Rattle.ur_values.specs.Size.{size, nesting, sizes, nestings, is_small}
+use Rattle.ur_values.proofs.Equations.{size-Many, nesting-Many}
 use Rattle.ur_tags.specs.Segments.{segment}
 use Rattle.ur_terms.specs.declared.term.AnswerForm.TheVariants as form
-use Rattle.ur_terms.specs.State.{State, Outcome, error_text}
+use Rattle.ur_terms.specs.State.{State, Outcome, Done, built, error_text}
 use Rattle.ur_terms.specs.Ops.{answered}
 use Rattle.ur_machine.specs.declared.stop.TurnStop.{TurnStop}
 use Rattle.ur_machine.specs.declared.stop.TurnStop.TheVariants as stop
@@ -23,26 +27,46 @@ gives_as (Err stop.Memory) e h = tt
 
 -- ---- rows
 
--- more than one row where one is expected
-one_of_more : (first : List Value) (row : Value) → first ≢ [] → (s : State) → answered form.One (first ++ row ∷ []) s ≡ error_text (codes "expected one row") s
-one_of_more [] row n s = absurd (n refl)
-one_of_more (x ∷ []) row n s = refl
-one_of_more (x ∷ y ∷ first) row n s = refl
+-- the only row
+pub only_given : (rows : List Value) (x y : Value) → rows ≡ x ∷ [] → y ≡ x → (s : State) → answered form.One rows s ≡ built y s
+only_given rows x y e f s = ap (λ xs. answered form.One xs s) e ∙ ap (λ z. built z s) (sym f)
 
-pub more_than_one : (rows first : List Value) (row : Value) → rows ≡ first ++ row ∷ [] → first ≢ [] → (s : State) → answered form.One rows s ≡ error_text (codes "expected one row") s
-more_than_one rows first row e n s = ap (λ xs. answered form.One xs s) e ∙ one_of_more first row n s
+pub other_than_one : (rows : List Value) → (length rows ≡ 1 → ⊥) → (s : State) → answered form.One rows s ≡ error_text (codes "expected one row") s
+other_than_one [] n s = refl
+other_than_one (x ∷ []) n s = absurd (n refl)
+other_than_one (x ∷ y ∷ rows) n s = refl
 
-most_of_more : (first : List Value) (row : Value) → first ≢ [] → (s : State) → answered form.OneOrNone (first ++ row ∷ []) s ≡ error_text (codes "expected one row") s
-most_of_more [] row n s = absurd (n refl)
-most_of_more (x ∷ []) row n s = refl
-most_of_more (x ∷ y ∷ first) row n s = refl
+-- at most one row
+pub none_given : (rows : List Value) → rows ≡ [] → (s : State) → answered form.OneOrNone rows s ≡ Done v.Absent s
+none_given rows e s = ap (λ xs. answered form.OneOrNone xs s) e
 
-pub more_than_most : (rows first : List Value) (row : Value) → rows ≡ first ++ row ∷ [] → first ≢ [] → (s : State) → answered form.OneOrNone rows s ≡ error_text (codes "expected one row") s
-more_than_most rows first row e n s = ap (λ xs. answered form.OneOrNone xs s) e ∙ most_of_more first row n s
+pub one_given : (rows : List Value) (x y : Value) → rows ≡ x ∷ [] → y ≡ x → (s : State) → answered form.OneOrNone rows s ≡ built (v.Present y) s
+one_given rows x y e f s = ap (λ xs. answered form.OneOrNone xs s) e ∙ ap (λ z. built (v.Present z) s) (sym f)
 
--- the last of the rows is the only one
-pub only_row : (rows first : List Value) (row : Value) → rows ≡ first ++ row ∷ [] → first ≡ [] → rows ≡ row ∷ []
-only_row rows first row e f = e ∙ ap (λ xs. xs ++ row ∷ []) f
+pub more_than_one : (rows : List Value) → 2 ≤ length rows → (s : State) → answered form.OneOrNone rows s ≡ error_text (codes "expected one row") s
+more_than_one [] n s = absurd (omega arith)
+more_than_one (x ∷ []) n s = absurd (omega arith)
+more_than_one (x ∷ y ∷ rows) n s = refl
+
+-- ---- lists
+
+-- a list of values, whose size and nesting are told as far as the numbers go
+pub small_by_nesting : (values : List Value) (i most deep : ℕ) → length values ≤ i → most ≡ min (32 + sizes (take i values)) 18446744073709551615
+    → deep ≡ min (nestings (take i values)) 4294967295 → most ≤ 16777216 → leb deep 1023 ≡ is_small (v.Many values)
+small_by_nesting values i most deep past s n few =
+    let whole = take_all i values past in
+    let size_is : most ≡ min (32 + sizes values) 18446744073709551615 = s ∙ ap (λ vs. min (32 + sizes vs) 18446744073709551615) whole in
+    let nesting_is : deep ≡ min (nestings values) 4294967295 = n ∙ ap (λ vs. min (nestings vs) 4294967295) whole in
+    let fits : size (v.Many values) ≤ 16777216 = omega (arith, size_is, size-Many values, few) in
+    let same : leb deep 1023 ≡ leb (nesting (v.Many values)) 1024 = grind (arith, nat_tests, nesting_is, nesting-Many values) in
+    same ∙ ap (λ b. b && leb (nesting (v.Many values)) 1024) (sym (le-leb (size (v.Many values)) 16777216 fits))
+
+pub not_small : (values : List Value) (i most : ℕ) → length values ≤ i → most ≡ min (32 + sizes (take i values)) 18446744073709551615
+    → 16777216 < most → leb most 16777216 ≡ is_small (v.Many values)
+not_small values i most past s many =
+    let size_is : most ≡ min (32 + sizes values) 18446744073709551615 = s ∙ ap (λ vs. min (32 + sizes vs) 18446744073709551615) (take_all i values past) in
+    let large : 16777216 < size (v.Many values) = omega (arith, size_is, size-Many values, many) in
+    lt-leb most 16777216 many ∙ ap (λ b. b && leb (nesting (v.Many values)) 1024) (sym (lt-leb (size (v.Many values)) 16777216 large))
 
 -- ---- cookies
 
@@ -52,11 +76,3 @@ no_segment (v.Int z) n = absurd (n tt)
 no_segment (v.Str t) n = absurd (n tt)
 no_segment (v.Bool b) n = absurd (n tt)
 no_segment _ n = refl
-
--- a list that is not empty
-pub not_nil : (xs : List Value) (b : Bool) → b ≡ false → IsTrue b ↔ (xs ≡ []) → xs ≢ []
-not_nil xs b e h is = differ b e (h.1 is)
-  where
-    differ : (b : Bool) → b ≡ false → IsTrue b → ⊥
-    differ true e t = cc
-    differ false e t = cc

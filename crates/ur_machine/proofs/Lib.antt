@@ -17,3 +17,4 @@ pub mod Asking
 pub mod Turning
 pub mod Scanning
 pub mod Reading
+pub mod AtOnce

@@ -344,43 +344,52 @@ module _ (schema : Schema) (u : Change) (args : List Value) (saved saved' curren
       → EndsCall {A = A} (Err e) saved₁ saved' current' kept₁ kept' under_way' → Its (Err e)
   made_stops_after A e saved₁ kept₁ under_way₁ w h = made_stops A e (ends_after A e saved saved₁ saved' current' kept kept₁ kept' under_way₁ under_way' w h)
 
-  module _ (shape : TableShape) (at : slice_get schema.tables u.table ≡ Some shape) (rows : List Numbered) (told : WhereTold current (λ t. rows ≡ table_at t u.table)) where
+  module _ (shape : TableShape) (at : slice_get schema.tables u.table ≡ Some shape) (rows : List Numbered) (told : WhereTold current (λ t. rows ≡ table_at t u.table))
+      (ready : WhereTold current (AreReady schema 1)) where
+    with_ready : WhereTold current (λ t. (rows ≡ table_at t u.table) × AreReady schema 1 t)
+    with_ready = go current told ready
+      where
+        go : (o : Option Tables) → WhereTold o (λ t. rows ≡ table_at t u.table) → WhereTold o (AreReady schema 1) → WhereTold o (λ t. (rows ≡ table_at t u.table) × AreReady schema 1 t)
+        go None a b = tt
+        go (Some t) a b = (a, b)
+
+    -- no two rows of the table agree on a key
+    apart : (t : Tables) → rows ≡ table_at t u.table → MayCommit schema t → IsNone (repeated_key shape.keys (rows_of rows))
+    apart t r commits =
+        subst (λ rs. IsNone (repeated_key shape.keys (rows_of rs))) (sym r) (zip_at MayCommitTable schema.tables t.tables u.table shape [] commits at).distinct
+
     -- an error in place of the change
-    made_error : (e : TurnStop) → IsWithin saved saved' kept kept' under_way' → current' ≡ current → ((t : Tables) → current ≡ Some t → rows ≡ table_at t u.table → Makes schema u args (store_of t) current' (Err e))
+    made_error : (e : TurnStop) → IsWithin saved saved' kept kept' under_way' → current' ≡ current → ((t : Tables) → current ≡ Some t → (rows ≡ table_at t u.table) × AreReady schema 1 t → Makes schema u args (store_of t) current' (Err e))
         → (e ≡ stop.Keeper → ⊥) → (e ≡ stop.Undone → ⊥) → Its (Err e)
-    made_error (stop.Failed body) w same h a b = record { makes = where_told current _ _ told h; ready = λ w a b c. tt; raised = tt; value = tt; leaves = w; stays = same; untold = tt }
-    made_error stop.Spent w same h a b = record { makes = where_told current _ _ told h; ready = λ w a b c. tt; raised = tt; value = tt; leaves = w; stays = same; untold = tt }
+    made_error (stop.Failed body) w same h a b = record { makes = where_told current _ _ with_ready h; ready = λ w a b c. tt; raised = tt; value = tt; leaves = w; stays = same; untold = tt }
+    made_error stop.Spent w same h a b = record { makes = where_told current _ _ with_ready h; ready = λ w a b c. tt; raised = tt; value = tt; leaves = w; stays = same; untold = tt }
     made_error stop.Keeper w same h a b = absurd (a refl)
     made_error stop.Undone w same h a b = absurd (b refl)
-    made_error stop.Memory w same h a b = record { makes = where_told current _ _ told h; ready = λ w a b c. tt; raised = tt; value = tt; leaves = w; stays = tt; untold = tt }
+    made_error stop.Memory w same h a b = record { makes = where_told current _ _ with_ready h; ready = λ w a b c. tt; raised = tt; value = tt; leaves = w; stays = tt; untold = tt }
 
     no_keeper : (w : State → Outcome Value) (e : TurnStop) → Gives w (Err e) → (e ≡ stop.Keeper → ⊥) × (e ≡ stop.Undone → ⊥)
     no_keeper w e g = ((λ is. subst (λ z. Gives w (Err z)) is g), (λ is. subst (λ z. Gives w (Err z)) is g))
 
-    pub made_key_error : (k : ℕ) (e : TurnStop) → planned.DuplicateKey k ≡ plan u.action args shape.keys rows → Gives (error_text (codes "duplicate key in " ++ shape.name)) (Err e)
+    pub made_key_error : (k : ℕ) (e : TurnStop) → (IsNone (repeated_key shape.keys (rows_of rows)) → planned.DuplicateKey k ≡ plan u.action args shape.keys rows) → Gives (error_text (codes "duplicate key in " ++ shape.name)) (Err e)
         → IsWithin saved saved' kept kept' under_way' → current' ≡ current → Its (Err e)
     made_key_error k e is g w same =
         let n = no_keeper (error_text (codes "duplicate key in " ++ shape.name)) e g in
-        made_error e w same (λ t f r. makes_key_error schema u shape at args t k e current' (is ∙ ap (plan u.action args shape.keys) r) g) n.0 n.1
+        made_error e w same (λ t f r. makes_key_error schema u shape at args t k e current' (is (apart t r.0 r.1.commits) ∙ ap (plan u.action args shape.keys) r.0) g) n.0 n.1
 
-    pub made_full_error : (e : TurnStop) → planned.TableFull ≡ plan u.action args shape.keys rows → Gives (error_text (codes "table full: " ++ shape.name)) (Err e)
+    pub made_full_error : (e : TurnStop) → (IsNone (repeated_key shape.keys (rows_of rows)) → planned.TableFull ≡ plan u.action args shape.keys rows) → Gives (error_text (codes "table full: " ++ shape.name)) (Err e)
         → IsWithin saved saved' kept kept' under_way' → current' ≡ current → Its (Err e)
     made_full_error e is g w same =
         let n = no_keeper (error_text (codes "table full: " ++ shape.name)) e g in
-        made_error e w same (λ t f r. makes_full_error schema u shape at args t e current' (is ∙ ap (plan u.action args shape.keys) r) g) n.0 n.1
+        made_error e w same (λ t f r. makes_full_error schema u shape at args t e current' (is (apart t r.0 r.1.commits) ∙ ap (plan u.action args shape.keys) r.0) g) n.0 n.1
 
-    module _ (ready : WhereTold current (AreReady schema 1)) (changes : List RowChange) (is : planned.Changes changes ≡ plan u.action args shape.keys rows) where
-      with_ready : WhereTold current (λ t. (rows ≡ table_at t u.table) × AreReady schema 1 t)
-      with_ready = go current told ready
-        where
-          go : (o : Option Tables) → WhereTold o (λ t. rows ≡ table_at t u.table) → WhereTold o (AreReady schema 1) → WhereTold o (λ t. (rows ≡ table_at t u.table) × AreReady schema 1 t)
-          go None a b = tt
-          go (Some t) a b = (a, b)
+    module _ (changes : List RowChange) (is : IsNone (repeated_key shape.keys (rows_of rows)) → planned.Changes changes ≡ plan u.action args shape.keys rows) where
+      is_plan : (t : Tables) → rows ≡ table_at t u.table → MayCommit schema t → planned.Changes changes ≡ plan u.action args shape.keys (table_at t u.table)
+      is_plan t r commits = is (apart t r commits) ∙ ap (plan u.action args shape.keys) r
 
       -- more than may be stored
       pub made_spent : (All (OfNewRow (All IsStorable)) changes → ⊥) → IsWithin saved saved' kept kept' under_way' → current' ≡ current → Its (Err stop.Spent)
       made_spent none w same = record {
-        makes = where_told current _ _ with_ready (λ t f r. makes_spent schema u shape at args t r.1.fits changes (is ∙ ap (plan u.action args shape.keys) r.0) current' none);
+        makes = where_told current _ _ with_ready (λ t f r. makes_spent schema u shape at args t r.1.fits changes (is_plan t r.0 r.1.commits) current' none);
         ready = λ w a b c. tt;
         raised = tt;
         value = tt;
@@ -392,23 +401,20 @@ module _ (schema : Schema) (u : Change) (args : List Value) (saved saved' curren
       -- the changes may be made
       pub made_may : WhereTold current (MayChangeAll u.table changes)
       made_may = where_told current _ _ with_ready (λ t f r. (
-          let its = is_plan t r.0 in
+          let its = is_plan t r.0 r.1.commits in
           let says = planned_changes u.action args shape.keys (table_at t u.table) changes its in
           let there = within schema u shape at args t r.1.fits changes its in
           let are = its_rows schema u shape at args t r.1.fits changes its in
           let low = next_low 9223372036854775805 (table_at t u.table) (All-get_or (λ rows. Low 9223372036854775805 rows) t.tables u.table [] there r.1.numbers.rows) in
           subst (λ cs. MayChangeAll u.table cs t) (sym says.0)
           (planned_may u.action args u.table t there (omega (arith, low)) (can_change u.action args (table_at t u.table) are.numbers))))
-        where
-          is_plan : (t : Tables) → rows ≡ table_at t u.table → planned.Changes changes ≡ plan u.action args shape.keys (table_at t u.table)
-          is_plan t r = is ∙ ap (plan u.action args shape.keys) r
 
       -- they were made
       pub made_ok : (x : Value) → All (OfNewRow (IsRowOf (Keeps schema) u.table)) changes → current' ≡ option_map (all_changed u.table changes) current → x ≡ unit_value
           → IsWithin saved saved' kept kept' under_way' → Its (Ok x)
       made_ok x fit made unit w = record {
         makes = where_told current _ _ with_ready (λ t f r.
-            makes_changed schema u shape at args t r.1.fits changes (is_plan t r.0) fit current' x (made ∙ ap (option_map (all_changed u.table changes)) f) unit);
+            makes_changed schema u shape at args t r.1.fits changes (is_plan t r.0 r.1.commits) fit current' x (made ∙ ap (option_map (all_changed u.table changes)) f) unit);
         ready = λ n some few h. subst (λ o. WhereTold o (AreReady schema (n - 1))) (sym made) (go current told n some few h);
         raised = λ m h. subst (λ o. WhereTold o (NumbersUpTo (m + 1))) (sym made) (raise current with_ready m h);
         value = unit;
@@ -417,17 +423,14 @@ module _ (schema : Schema) (u : Change) (args : List Value) (saved saved' curren
         untold = λ n. made ∙ ap (option_map (all_changed u.table changes)) n;
       }
         where
-          is_plan : (t : Tables) → rows ≡ table_at t u.table → planned.Changes changes ≡ plan u.action args shape.keys (table_at t u.table)
-          is_plan t r = is ∙ ap (plan u.action args shape.keys) r
-
           raise : (o : Option Tables) → WhereTold o (λ t. (rows ≡ table_at t u.table) × AreReady schema 1 t) → (m : ℕ) → WhereTold o (NumbersUpTo m) → WhereTold (option_map (all_changed u.table changes) o) (NumbersUpTo (m + 1))
           raise None r m h = tt
-          raise (Some t) r m h = numbers_done schema u shape at args t r.1.fits changes (is_plan t r.0) fit m (m + 1) (omega arith) h
+          raise (Some t) r m h = numbers_done schema u shape at args t r.1.fits changes (is_plan t r.0 r.1.commits) fit m (m + 1) (omega arith) h
 
           go : (o : Option Tables) → WhereTold o (λ t. rows ≡ table_at t u.table) → (n : ℕ) → 1 ≤ n → n ≤ 9223372036854775806 → WhereTold o (AreReady schema n)
               → WhereTold (option_map (all_changed u.table changes) o) (AreReady schema (n - 1))
           go None r n some few h = tt
-          go (Some t) r n some few h = ready_done schema u shape at args t h.fits changes (is_plan t r) fit n some few h
+          go (Some t) r n some few h = ready_done schema u shape at args t h.fits changes (is_plan t r h.commits) fit n some few h
 
 -- ---- rows that are added or put
 

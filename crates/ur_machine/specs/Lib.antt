@@ -1,4 +1,5 @@
 pub mod Cookies
+pub mod Gifts
 pub mod Left
 pub mod UnderWay
 pub mod Sample
@@ -7,6 +8,7 @@ pub mod Laws
 pub mod Stops
 pub mod Caching
 pub mod Reading
+pub mod Rest
 pub mod TurnsCookies
 pub mod Ready
 pub mod Changing

@@ -5,10 +5,10 @@ ghost use Rattle.ur_cache.specs.Entries.{hit, kept, looked_up, masked};
 ghost use Rattle.ur_conditions.specs.Masks.{PatternReads, update_masks};
 
 use std::alloc::Global;
-use ur_base::{List, Memory};
+use ur_base::{List, Memory, Shared};
 use ur_cache::{Cache, fits};
 use ur_conditions::Patterns;
-use ur_values::{Atom, Value, copy_values};
+use ur_values::{Atom, Value};
 
 /// The atoms that stand for the values of a key.
 pub fn atoms_of(alloc: Global, key: &[Value]) -> Result<List<Atom>, Memory>
@@ -22,32 +22,30 @@ pub fn atoms_of(alloc: Global, key: &[Value]) -> Result<List<Atom>, Memory>
     Ok(atoms)
 }
 
-/// A copy of the rows of an entry, which goes to the front; none where a mask matches.
+/// The rows of an entry, which goes to the front and shares them; none where a mask matches.
 pub fn held_rows(
-    alloc: Global,
     cache: &mut Cache,
     site: u32,
     key: &[Atom],
-) -> Result<Option<List<Value>>, Memory>
+) -> Result<Option<Shared<List<Value>>>, Memory>
     ensures front { cache.new ≡ looked_up cache.old site (atom_values key.now) }
     ensures rows { IfOk result (λ rows. rows ≡ option_map (λ e. e.rows) (hit cache.old site (atom_values key.now))) }
 {
     match cache.lookup(site, key) {
         None => Ok(None),
         Some(rows) => {
-            let copy = copy_values(alloc, rows)?;
-            Ok(Some(copy))
+            let shared = rows.share()?;
+            Ok(Some(shared))
         }
     }
 }
 
-/// Keeps rows that were read, where no mask matches and they are not too large.
+/// Keeps rows that were read, where no mask matches and they are not too large. The entry shares them.
 pub fn keep_rows(
-    alloc: Global,
     cache: &mut Cache,
     site: u32,
     key: List<Atom>,
-    rows: &List<Value>,
+    rows: &Shared<List<Value>>,
 ) -> Result<(), Memory>
     requires { hit cache.old site (atom_values key) ≡ None }
     ensures ok { OnOk result (cache.new ≡ kept cache.old (record { site = site; key = atom_values key; rows = rows.now })) }
@@ -56,11 +54,11 @@ pub fn keep_rows(
     if cache.masked(site, key.as_slice()) {
         return Ok(());
     }
-    if !fits(key.as_slice(), rows.as_slice()) {
+    if !fits(key.as_slice(), rows.get().as_slice()) {
         return Ok(());
     }
-    let copy = copy_values(alloc, rows)?;
-    cache.put(site, key, copy)
+    let shared = rows.share()?;
+    cache.put(site, key, shared)
 }
 
 /// Adds the masks of an update that is run.

@@ -4,10 +4,12 @@
 
 mod calls;
 mod cookies;
+mod given;
 mod law;
 mod machine;
 mod queries;
 mod reached;
+mod rest;
 mod stop;
 mod store_calls;
 mod turn;
@@ -17,6 +19,7 @@ mod writes;
 
 pub use calls::{add_masks, atoms_of, held_rows, keep_rows};
 pub use cookies::first_value;
+pub use given::Given;
 pub use law::{answers_are_kept, patterns_are_sound};
 pub use machine::Machine;
 pub use reached::Reached;

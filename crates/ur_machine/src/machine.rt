@@ -6,17 +6,18 @@ ghost use Rattle.ur_machine.specs.Left.{Starts, IsControl, EndsAs, given_to};
 ghost use Rattle.ur_machine.specs.UnderWay.{IsUnderWay, Pauses};
 
 use crate::cookies::carried;
+use crate::given::Given;
 use std::alloc::Global;
 use ur_base::{List, Memory, Text};
 use ur_code::Code;
 use ur_machine_frames::{Control, Frame, Operations, Pause, Stack};
-use ur_values::{Call, Value};
+use ur_values::Call;
 
 /// A run of one request. `given` is the value that the last query, change or draw gave.
 #[derive(Drop)]
 pub struct Machine {
     pub frames: ur_machine_frames::Frames,
-    pub given: Option<Value>,
+    pub given: Option<Given>,
 }
 
 impl Machine {
@@ -70,7 +71,10 @@ impl Machine {
     {
         // The clause `bound` of `units` is wanted, and not the number.
         self.units();
-        let control = self.control(code);
+        let Ok(control) = self.control(alloc, code) else {
+            self.units();
+            return Pause::Memory;
+        };
         let pause = self
             .frames
             .advance(alloc, operations, &code.functions, control);
@@ -87,7 +91,7 @@ impl Machine {
     }
 
     /// The answer of the operation on tables at which the run stands, and the units that it left.
-    pub fn answer(&mut self, value: Value, units: u32)
+    pub fn answer(&mut self, value: Given, units: u32)
         ensures { self.new ≡ given_to self.old value units }
     {
         self.given = Some(value);
@@ -95,15 +99,18 @@ impl Machine {
     }
 
     /// Where the run goes on: with the value that was given, or at the term where it stands.
-    fn control<'a>(&mut self, code: &'a Code) -> Control<'a>
+    fn control<'a>(&mut self, alloc: Global, code: &'a Code) -> Result<Control<'a>, Memory>
         requires { IsUnderWay code.now self.old }
-        ensures control { IsControl code.now self.old result }
+        ensures control { IfOk result (IsControl code.now self.old) }
         ensures frames { self.new.frames ≡ self.old.frames }
     {
         match self.given.take() {
-            Some(value) => Control::Give(value),
+            Some(given) => {
+                let value = given.into_value(alloc)?;
+                Ok(Control::Give(value))
+            }
             None => match self.frames.here(&code.functions) {
-                Some(term) => Control::Enter(term),
+                Some(term) => Ok(Control::Enter(term)),
                 None => unreachable!(),
             },
         }

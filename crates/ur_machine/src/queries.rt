@@ -1,12 +1,14 @@
 //! Queries over a keeper and a cache.
-ghost use Rattle.std.specs.Prelude.{◌≡◌, ◌≤◌, ◌<◌, ◌-◌, true, length, map, All, IfOk, IfSome, OnOk, MatchResult, None};
+ghost use Rattle.std.specs.Prelude.{◌≡◌, ◌≤◌, ◌<◌, ◌+◌, ◌-◌, true, length, map, All, IfErr, IfOk, IfSome, OnOk, MatchResult, None};
 ghost use Rattle.std.specs.List.{AllZip};
 ghost use Rattle.ur_base.specs.Counts.{HasCause};
 ghost use Rattle.ur_base.specs.Told.{WhereTold};
 ghost use Rattle.ur_values.specs.Atom.{IsAtomic, atom_values};
+ghost use Rattle.ur_values.specs.declared.value.Value.TheVariants as v;
 ghost use Rattle.ur_keeper.specs.Tables.{Keeps, AreRowsOf, table_at};
 ghost use Rattle.ur_keeper.specs.Keeper.{HasTable, OfShape};
 ghost use Rattle.ur_cache.specs.Entries.{hit};
+ghost use Rattle.ur_terms.specs.declared.term.AnswerForm.TheVariants as form;
 ghost use Rattle.ur_terms.specs.declared.term.Op.TheVariants as op;
 ghost use Rattle.ur_terms.specs.State.{built, error_text};
 ghost use Rattle.ur_terms.specs.Ops as ops;
@@ -18,11 +20,12 @@ ghost use Rattle.ur_machine.specs.Ready.{AreReady};
 ghost use Rattle.ur_machine.specs.Reading.{IsKeyOf, FindsRows};
 ghost use Rattle.ur_machine.specs.Stops.{EndsCall};
 
+use crate::given::{Given, are_small};
 use crate::stop::TurnStop;
 use crate::turns_calls::scan;
 use crate::{Reached, atoms_of, held_rows, keep_rows};
 use std::alloc::Global;
-use ur_base::{Boxed, List};
+use ur_base::{Boxed, List, Shared};
 use ur_cache::Cache;
 use ur_code::Code;
 use ur_conditions::Patterns;
@@ -44,7 +47,7 @@ pub(crate) fn ask<K: Keeper>(
     how: AnswerForm,
     site: u32,
     key: List<Value>,
-) -> Result<Value, TurnStop>
+) -> Result<Given, TurnStop>
     requires fits { Fits code.now }
     requires takes { Takes code.now (op.Ask how site) key }
     requires under_way { K.under_way keeper.old ≡ true }
@@ -83,7 +86,7 @@ fn rows_at<K: Keeper>(
     cache: &mut Cache,
     site: u32,
     key: &[Value],
-) -> Result<List<Value>, TurnStop>
+) -> Result<Shared<List<Value>>, TurnStop>
     requires fits { Fits code.now }
     requires takes { IsKeyOf code.now site key.now }
     requires under_way { K.under_way keeper.old ≡ true }
@@ -95,7 +98,7 @@ fn rows_at<K: Keeper>(
     ensures cause { HasCause TurnStop.Keeper (K.faults keeper.old) (K.faults keeper.new) result }
 {
     let atoms = atoms_of(alloc, key)?;
-    let held = held_rows(alloc, cache, site, atoms.as_slice())?;
+    let held = held_rows(cache, site, atoms.as_slice())?;
     match held {
         Some(rows) => Ok(rows),
         None => rows_of_tables(alloc, code, patterns, keeper, cache, site, key, atoms),
@@ -112,7 +115,7 @@ fn rows_of_tables<K: Keeper>(
     site: u32,
     key: &[Value],
     atoms: List<Atom>,
-) -> Result<List<Value>, TurnStop>
+) -> Result<Shared<List<Value>>, TurnStop>
     requires fits { Fits code.now }
     requires takes { IsKeyOf code.now site key.now }
     requires atoms { atom_values atoms ≡ key.now }
@@ -130,8 +133,8 @@ fn rows_of_tables<K: Keeper>(
         None => unreachable!(),
         Some(query) => {
             let tables = scan_all(alloc, keeper, query.from.as_slice())?;
-            let rows = answer(alloc, query, key, tables.as_slice())?;
-            keep_rows(alloc, cache, site, atoms, &rows)?;
+            let rows = Shared::new(alloc, answer(alloc, query, key, tables.as_slice())?)?;
+            keep_rows(cache, site, atoms, &rows)?;
             Ok(rows)
         }
     }
@@ -166,14 +169,24 @@ fn scan_all<K: Keeper>(
 fn answer_to(
     alloc: Global,
     how: AnswerForm,
-    rows: List<Value>,
+    rows: Shared<List<Value>>,
     units: &mut u32,
-) -> Result<Value, TurnStop>
+) -> Result<Given, TurnStop>
     ensures { Answers how rows units.old units.new result }
 {
-    charge(units, rows.len() as u64 + 1)?;
+    charge_rows(units, rows.get().as_slice())?;
     let value = answered(alloc, how, rows)?;
     Ok(value)
+}
+
+/// Takes a unit and one for each row, where so many are left.
+fn charge_rows(units: &mut u32, rows: &[Value]) -> Result<(), TurnStop>
+    ensures ok { OnOk result ((1 + length rows.now ≤ units.old) × (units.old ≤ 4294967295) × (units.new ≡ units.old - (1 + length rows.now))) }
+    ensures err { IfErr result (λ stop. (stop ≡ TurnStop.Spent) × (units.old < 1 + length rows.now) × (units.new ≡ units.old)) }
+{
+    let count = (rows.len() as u64).saturating_add(1);
+    charge(units, count)?;
+    Ok(())
 }
 
 /// Takes units, where so many are left.
@@ -188,42 +201,62 @@ pub(crate) fn charge(units: &mut u32, count: u64) -> Result<(), TurnStop>
 }
 
 /// All rows, the only row, or at most one row.
-fn answered(alloc: Global, how: AnswerForm, rows: List<Value>) -> Result<Value, TurnStop>
+fn answered(alloc: Global, how: AnswerForm, rows: Shared<List<Value>>) -> Result<Given, TurnStop>
     ensures { Gives (ops.answered how rows) result }
 {
-    let mut rows = rows;
     match how {
-        AnswerForm::All => small(Value::Many(rows)),
-        AnswerForm::One => match rows.pop() {
-            None => Err(failed(alloc, b"expected one row")),
-            Some(row) => {
-                if rows.is_empty() {
-                    small(row)
-                } else {
-                    Err(failed(alloc, b"expected one row"))
-                }
-            }
-        },
-        AnswerForm::OneOrNone => match rows.pop() {
-            None => Ok(Value::Absent),
-            Some(row) => {
-                if rows.is_empty() {
-                    let row = Boxed::new(alloc, row)?;
-                    small(Value::Present(row))
-                } else {
-                    Err(failed(alloc, b"expected one row"))
-                }
-            }
-        },
+        AnswerForm::All => all(rows),
+        AnswerForm::One => only(alloc, rows.get().as_slice()),
+        AnswerForm::OneOrNone => at_most_one(alloc, rows.get().as_slice()),
+    }
+}
+
+/// A copy of the only row.
+fn only(alloc: Global, rows: &[Value]) -> Result<Given, TurnStop>
+    ensures { Gives (ops.answered form.One rows.now) result }
+{
+    match rows {
+        [] => Err(failed(alloc, b"expected one row")),
+        [row] => {
+            let copy = row.copy(alloc)?;
+            small(copy)
+        }
+        _ => Err(failed(alloc, b"expected one row")),
+    }
+}
+
+/// A copy of the only row, where there is one.
+fn at_most_one(alloc: Global, rows: &[Value]) -> Result<Given, TurnStop>
+    ensures { Gives (ops.answered form.OneOrNone rows.now) result }
+{
+    match rows {
+        [] => Ok(Given::value(Value::Absent)),
+        [row] => {
+            let copy = row.copy(alloc)?;
+            let present = Boxed::new(alloc, copy)?;
+            small(Value::Present(present))
+        }
+        _ => Err(failed(alloc, b"expected one row")),
+    }
+}
+
+/// All rows, or a spent budget where their list is too large or too deep.
+fn all(rows: Shared<List<Value>>) -> Result<Given, TurnStop>
+    ensures { Gives (built (v.Many rows)) result }
+{
+    if are_small(rows.get().as_slice()) {
+        Ok(Given::rows(rows))
+    } else {
+        Err(TurnStop::Spent)
     }
 }
 
 /// The value, or a spent budget where it is too large or too deep.
-fn small(value: Value) -> Result<Value, TurnStop>
+fn small(value: Value) -> Result<Given, TurnStop>
     ensures { Gives (built value) result }
 {
     if is_small(&value) {
-        Ok(value)
+        Ok(Given::value(value))
     } else {
         Err(TurnStop::Spent)
     }

@@ -11,11 +11,11 @@ ghost use Rattle.ur_machine.specs.Caching.{LeavesAnswers};
 ghost use Rattle.ur_machine.specs.StoreCalls.{OneStep, Takes, StoreCall};
 ghost use Rattle.ur_machine.specs.Ready.{AreReady};
 
-use crate::Reached;
 use crate::queries::{ask, charge};
 use crate::stop::TurnStop;
 use crate::turns_calls::draw;
 use crate::writes::write;
+use crate::{Given, Reached};
 use std::alloc::Global;
 use ur_base::List;
 use ur_cache::Cache;
@@ -36,7 +36,7 @@ pub(crate) fn store_call<K: Keeper>(
     reached: &mut Reached,
     op: &Op,
     args: List<Value>,
-) -> Result<Value, TurnStop>
+) -> Result<Given, TurnStop>
     requires fits { Fits code.now }
     requires patterns { ArePatternsOf code.now patterns.now }
     requires tables { IsLocal op.now → ⊥ }
@@ -55,9 +55,12 @@ pub(crate) fn store_call<K: Keeper>(
         Op::Ask(how, site) => ask(
             alloc, code, patterns, keeper, cache, units, reached, *how, *site, args,
         ),
-        Op::Write(update) => write(
-            alloc, code, patterns, keeper, cache, units, reached, *update, args,
-        ),
+        Op::Write(update) => {
+            let value = write(
+                alloc, code, patterns, keeper, cache, units, reached, *update, args,
+            )?;
+            Ok(Given::value(value))
+        }
         Op::Next(sequence) => next(
             code, patterns, keeper, cache, units, reached, *sequence, args,
         ),
@@ -76,7 +79,7 @@ fn next<K: Keeper>(
     reached: &mut Reached,
     sequence: u32,
     args: List<Value>,
-) -> Result<Value, TurnStop>
+) -> Result<Given, TurnStop>
     requires nothing { reached.old ≡ Reached.Nothing }
     requires takes { Takes code.now (ops.Next sequence) args }
     requires under_way { K.under_way keeper.old ≡ true }
@@ -92,5 +95,5 @@ fn next<K: Keeper>(
     charge(units, 1)?;
     *reached = Reached::Sequence(sequence);
     let number = draw(keeper, sequence)?;
-    Ok(Value::Int(number))
+    Ok(Given::value(Value::Int(number)))
 }

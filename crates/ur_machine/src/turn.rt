@@ -14,6 +14,7 @@ ghost use Rattle.ur_machine.specs.StoreCalls.{OneStep};
 ghost use Rattle.ur_machine.specs.Ready.{AreReady, RaisedBy};
 ghost use Rattle.ur_machine.specs.Turning.{TurnOn, IsKeeperUndone, IfMore, StaysAtEnd, Ran, Turned};
 
+use crate::rest::page_of_rest;
 use crate::stop::TurnStop;
 use crate::store_calls::store_call;
 use crate::turns_cookies::sent_pairs;
@@ -137,8 +138,42 @@ fn gives_up<K: Keeper>(keeper: &mut K) -> Turn
     Turn::Memory
 }
 
-/// Runs to the next operation on tables and does it.
+/// Runs to the next operation on tables and does it; where nothing is left but to write the page, it is written at once.
 fn to_next_store_call<K: Keeper>(
+    alloc: Global,
+    code: &Code,
+    patterns: &Patterns,
+    machine: &mut Machine,
+    keeper: &mut K,
+    cache: &mut Cache,
+    reached: &mut Reached,
+) -> Result<Turn, TurnStop>
+    requires fits { Fits code.now }
+    requires patterns { ArePatternsOf code.now patterns.now }
+    requires machine { IsUnderWay code.now machine.old }
+    requires under_way { K.under_way keeper.old ≡ true }
+    requires kept { K.kept keeper.old ≡ Keeps code.now.schema }
+    requires ready { WhereTold (K.current keeper.old) (AreReady code.now.schema machine.old.frames.units) }
+    requires saved { AreSavedAnswers code.now (K.saved keeper.old) cache.old }
+    requires current { AreCurrentAnswers code.now (K.saved keeper.old) (K.current keeper.old) cache.old }
+    ensures ran { Ran (OneStep code.now (sites_of code.now patterns.now) cache.old cache.new (K.reads keeper.old) (K.reads keeper.new) reached.new) code.now machine.old machine.new (K.saved keeper.old) (K.saved keeper.new) (K.current keeper.old) (K.current keeper.new) (K.kept keeper.new) (K.under_way keeper.new) result }
+    ensures units { machine.new.frames.units ≤ machine.old.frames.units }
+    ensures answers { LeavesAnswers code.now (K.saved keeper.new) (K.current keeper.new) cache.old cache.new result }
+    ensures cause { HasCause TurnStop.Keeper (K.faults keeper.old) (K.faults keeper.new) result }
+{
+    *reached = Reached::Nothing;
+    let rest = page_of_rest(alloc, code, machine)?;
+    match rest {
+        Some(bytes) => {
+            let turn = written_page(alloc, code, machine, bytes)?;
+            Ok(turn)
+        }
+        None => run_to_next(alloc, code, patterns, machine, keeper, cache, reached),
+    }
+}
+
+/// The same by the machine alone.
+fn run_to_next<K: Keeper>(
     alloc: Global,
     code: &Code,
     patterns: &Patterns,
@@ -187,5 +222,13 @@ fn page_of(alloc: Global, code: &Code, machine: &Machine, page: Value) -> Result
 {
     let pairs = sent_pairs(alloc, &code.cookies, machine.frames.sent.as_slice())?;
     let bytes = show(alloc, &code.handlers, &page)?;
+    Ok(Turn::Page(bytes, pairs))
+}
+
+/// The page of these bytes, and the cookies that were set.
+fn written_page(alloc: Global, code: &Code, machine: &Machine, bytes: Bytes) -> Result<Turn, Memory>
+    ensures { IfOk result (λ turn. turn ≡ Turn.Page bytes (words.sent_pairs code.now.cookies machine.now.frames.sent)) }
+{
+    let pairs = sent_pairs(alloc, &code.cookies, machine.frames.sent.as_slice())?;
     Ok(Turn::Page(bytes, pairs))
 }

@@ -25,7 +25,7 @@ use ur_cache::Cache;
 use ur_code::Code;
 use ur_conditions::Patterns;
 use ur_keeper::Keeper;
-use ur_sql::{Change, Planned, RowChange, plan};
+use ur_sql::{Change, Planned, RowChange, plan_sound};
 use ur_values::{GREATEST_SIZE, Schema, TableShape, Value};
 
 /// Makes a change, which costs a unit.
@@ -85,7 +85,7 @@ fn make<K: Keeper>(
         None => unreachable!(),
         Some(shape) => {
             let rows = scan(keeper, change.table)?;
-            let planned = plan(alloc, change, args, &rows, shape)?;
+            let planned = plan_sound(alloc, change, args, &rows, shape)?;
             match planned {
                 Planned::Changes(changes) => {
                     if !are_storable(changes.as_slice()) {

@@ -24,3 +24,4 @@ pub use operations::Operations;
 pub use run::{Stopped, run_call};
 pub use stack::Stack;
 pub use unread::{are_branches_unread, are_unread, is_unread, is_unread_under};
+pub use walk::standing_at;

@@ -46,7 +46,7 @@ pub(crate) fn part_at<'a>(frame: &Frame, place: &'a Term) -> Option<&'a Term>
 }
 
 /// The term that the nearest frame leads to; the frames stand with the nearest last.
-pub(crate) fn standing_at<'a>(functions: &'a List<Function>, frames: &[Frame]) -> Option<&'a Term>
+pub fn standing_at<'a>(functions: &'a List<Function>, frames: &[Frame]) -> Option<&'a Term>
     ensures { option_copied result ≡ standing functions.now (reverse frames.now) }
 {
     match frames {

@@ -2,9 +2,11 @@ pub mod Operands
 pub mod Ranks
 pub mod Comparisons
 pub mod Consing
+pub mod SignRules
 pub mod Applying
 pub mod Sequences
 pub mod Lines
+pub mod ChoiceRules
 pub mod Branches
 pub mod Records
 pub mod Posts

@@ -1,4 +1,6 @@
 pub mod Branches
+pub mod Choices
+pub mod Signs
 pub mod Lists
 pub mod Codes
 pub mod Markups

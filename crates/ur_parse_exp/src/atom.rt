@@ -134,12 +134,12 @@ pub fn argument(
         Ok(given)
     } else if sees(tokens, at, TokenKind::Upper) {
         let (name, _end) = expect_name(alloc, tokens, at, TokenKind::Upper)?;
-        let greatest = greatest_height(depth, levels);
+        let greatest = greatest_height(depth);
         let made = read_capital(alloc, tokens, at, name, greatest)?;
         Ok(as_value(made))
     } else {
         let inner = base(alloc, tokens, at, depth, levels, false)?;
-        let greatest = greatest_height(depth, levels);
+        let greatest = greatest_height(depth);
         let made = read_dots(alloc, tokens, at, inner, greatest)?;
         Ok(as_value(made))
     }
@@ -160,7 +160,7 @@ fn bracketed(
 {
     let begin = at + 1;
     if sees(tokens, begin, TokenKind::Symbol(Symbol::RBracket)) {
-        let greatest = greatest_height(depth, levels);
+        let greatest = greatest_height(depth);
         let made = read_nil(alloc, tokens, at, begin + 1, greatest)?;
         Ok(as_value(made))
     } else {
@@ -187,17 +187,17 @@ pub fn post(
 {
     if sees(tokens, at, TokenKind::Symbol(Symbol::LBracket)) {
         let end = expect(alloc, tokens, at + 1, TokenKind::Symbol(Symbol::RBracket))?;
-        let greatest = greatest_height(depth, levels);
+        let greatest = greatest_height(depth);
         let made = read_nil(alloc, tokens, at, end, greatest)?;
         Ok(made)
     } else if sees_word_of(tokens, at, TokenKind::Upper, first) {
         let (name, _end) = expect_word_of(alloc, tokens, at, TokenKind::Upper, first)?;
-        let greatest = greatest_height(depth, levels);
+        let greatest = greatest_height(depth);
         let made = read_capital(alloc, tokens, at, name, greatest)?;
         Ok(made)
     } else if sees_base(tokens, at, first) {
         let inner = base(alloc, tokens, at, depth, levels, first)?;
-        let greatest = greatest_height(depth, levels);
+        let greatest = greatest_height(depth);
         let made = read_dots(alloc, tokens, at, inner, greatest)?;
         Ok(made)
     } else {

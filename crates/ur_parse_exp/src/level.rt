@@ -8,15 +8,15 @@ ghost use Rattle.ur_parse_con.specs.Operators.{level_of, SignAt};
 ghost use Rattle.ur_parse_exp_parts.specs.Lists.{StepRead};
 
 use crate::atom::{argument, head};
+use crate::signs::{past_signs, signed};
 use std::alloc::Global;
 use ur_base::{Boxed, List, Stop};
 use ur_lex::{Symbol, TokenKind, Tokens};
 use ur_parse_con::{Level, Sign, comparison_at, sign_at, taller};
 use ur_parse_exp_parts::{
-    Double, Piece, Single, apply, greatest_height, listed, may_grow, read_gone, sees_argument,
-    with_one, with_two,
+    Double, Piece, apply, greatest_height, listed, may_grow, read_gone, sees_argument, with_two,
 };
-use ur_parse_rules::{Parsed, below, pushed, sees, span, unexpected};
+use ur_parse_rules::{Parsed, pushed, sees, span, unexpected};
 use ur_syntax::Exp;
 
 /// What the operators of a level stand between.
@@ -72,7 +72,7 @@ pub fn left(
     ensures refused { IfRefused result (λ r. Refuses language depth tokens.now at (of_exp (e.left (level_of level))) r) }
 {
     let mut whole = operand(alloc, tokens, at, depth, levels, level)?;
-    let greatest = greatest_height(depth, levels);
+    let greatest = greatest_height(depth);
     'steps: while let Some(sign) = sign_at(tokens, whole.end, level) {
         may_grow(whole.height, greatest)?;
         whole = step(alloc, tokens, at, depth, levels, level, sign, whole)?;
@@ -175,7 +175,7 @@ fn cons(
         last = next;
     }
     let covered = span(tokens, begin, last.end);
-    let greatest = greatest_height(depth, levels);
+    let greatest = greatest_height(depth);
     let made = listed(alloc, before, covered, last, tallest, greatest)?;
     Ok(made)
 }
@@ -193,16 +193,11 @@ fn negative(
     ensures found { IfOk result (λ p. Reads language depth tokens.now at p.end (of_exp e.negative) p.tree) }
     ensures refused { IfRefused result (λ r. Refuses language depth tokens.now at (of_exp e.negative) r) }
 {
-    if sees(tokens, at, TokenKind::Symbol(Symbol::Minus)) {
-        let less = below(levels)?;
-        let inner = negative(alloc, tokens, at + 1, depth, less)?;
-        let covered = span(tokens, at, inner.end);
-        let made = with_one(alloc, covered, Single::Negative, inner)?;
-        Ok(made)
-    } else {
-        let made = app(alloc, tokens, at, depth, levels)?;
-        Ok(made)
-    }
+    let first = past_signs(tokens, at);
+    let inner = app(alloc, tokens, first, depth, levels)?;
+    let greatest = greatest_height(depth);
+    let made = signed(alloc, tokens, at, first, greatest, inner)?;
+    Ok(made)
 }
 
 /// Applications, which group to the left.
@@ -219,7 +214,7 @@ fn app(
     ensures refused { IfRefused result (λ r. Refuses language depth tokens.now at (of_exp e.app) r) }
 {
     let mut function = head(alloc, tokens, at, depth, levels)?;
-    let greatest = greatest_height(depth, levels);
+    let greatest = greatest_height(depth);
     'arguments: while sees_argument(tokens, function.end) {
         may_grow(function.height, greatest)?;
         let given = argument(alloc, tokens, function.end, depth, levels)?;

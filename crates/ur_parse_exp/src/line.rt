@@ -1,27 +1,30 @@
 //! Statements, `if`, `fn` and `case`.
-ghost use Rattle.std.specs.Prelude.{◌≡◌, ℕ, IfOk};
-ghost use Rattle.ur_parse_rules.specs.Places.{Moves, Reads, Refuses, IfRefused};
+ghost use Rattle.std.specs.Prelude.{◌≡◌, ◌+◌, ℕ, IfOk};
+ghost use Rattle.ur_lex.specs.declared.token.Keyword.TheVariants as keyword;
+ghost use Rattle.ur_lex.specs.declared.token.TokenKind.TheVariants as token;
+ghost use Rattle.ur_parse_rules.specs.Places.{Moves, IsAt, Other, OfKind, Reads, Refuses, IfRefused};
 ghost use Rattle.ur_parse_rules.specs.ExpParts.{exp, line, lambda, bar, branches};
 ghost use Rattle.ur_parse_rules.specs.Parts.{of_exp};
 ghost use Rattle.ur_parse_rules.specs.Language.{language};
 ghost use Rattle.ur_parse_con.specs.Forms.{Stays};
 ghost use Rattle.ur_parse_exp_parts.specs.Lines.{ended};
 ghost use Rattle.ur_parse_exp.specs.Branches.{BranchRead};
+ghost use Rattle.ur_parse_exp.specs.Choices.{ChoiceRead};
 
+use crate::choice::{Choice, chosen};
 use crate::level::left;
 use std::alloc::Global;
 use ur_base::{List, Stop};
 use ur_lex::{Keyword, Symbol, TokenKind, Tokens};
 use ur_parse_con::{Level, read_pat};
 use ur_parse_exp_parts::{
-    Line, bind_of, binding, case_of, closed, conditional_of, lambda_of, read_lambda_head,
+    Line, bind_of, binding, case_of, closed, greatest_height, lambda_of, read_lambda_head,
     sees_binding, sequence_of, with_branch,
 };
-use ur_parse_rules::{Parsed, below, expect, sees, span, too_deep, unexpected};
+use ur_parse_rules::{Parsed, expect, pushed, sees, span, too_deep, unexpected};
 use ur_syntax::Branch;
 
-/// An expression with at most `depth` nested, itself among them, and at most `levels` unary minus signs, `else if` and
-/// parentheses around kinds.
+/// An expression with at most `depth` nested, itself among them, and at most `levels` parentheses around kinds.
 #[cycle(exp)]
 pub fn exp(
     alloc: Global,
@@ -79,16 +82,83 @@ fn line(
     ensures refused { IfRefused result (λ r. Refuses language depth tokens.now at (of_exp line) r) }
 {
     if sees(tokens, at, TokenKind::Keyword(Keyword::If)) {
-        let test = exp(alloc, tokens, at + 1, depth, levels)?;
-        let begin = expect(alloc, tokens, test.end, TokenKind::Keyword(Keyword::Then))?;
-        let first = exp(alloc, tokens, begin, depth, levels)?;
-        let begin = expect(alloc, tokens, first.end, TokenKind::Keyword(Keyword::Else))?;
-        let less = below(levels)?;
-        let second = line(alloc, tokens, begin, depth, less)?;
-        let covered = span(tokens, at, second.end);
-        let made = conditional_of(alloc, covered, test, first, second)?;
-        Ok(made)
-    } else if sees(tokens, at, TokenKind::Keyword(Keyword::Fn)) {
+        conditional(alloc, tokens, at, depth, levels)
+    } else {
+        unconditional(alloc, tokens, at, depth, levels)
+    }
+}
+
+/// Any number of `if`, each but the first behind an `else`, and what stands behind the last one.
+#[cycle(exp)]
+#[inline(never)]
+fn conditional(
+    alloc: Global,
+    tokens: &Tokens,
+    at: usize,
+    depth: usize,
+    levels: usize,
+) -> Result<Parsed<Line>, Stop>
+    ensures moves { IfOk result (λ p. Moves tokens.now at p.end) }
+    ensures found { IfOk result (λ p. Reads language depth tokens.now at p.end (of_exp line) (ended p.tree)) }
+    ensures refused { IfRefused result (λ r. Refuses language depth tokens.now at (of_exp line) r) }
+{
+    let mut before: List<Choice> = List::new(alloc);
+    let mut begin = at;
+    'choices: while sees(tokens, begin, TokenKind::Keyword(Keyword::If)) {
+        let (one, next) = tested(alloc, tokens, begin, depth, levels)?;
+        pushed(&mut before, one)?;
+        begin = next;
+    }
+    let last = unconditional(alloc, tokens, begin, depth, levels)?;
+    let covered = span(tokens, begin, last.end);
+    let greatest = greatest_height(depth);
+    let made = chosen(alloc, before, covered, last, greatest)?;
+    Ok(made)
+}
+
+/// `if`, a test, `then`, the first branch and `else`, with the place behind it.
+#[cycle(exp)]
+#[inline(never)]
+fn tested(
+    alloc: Global,
+    tokens: &Tokens,
+    at: usize,
+    depth: usize,
+    levels: usize,
+) -> Result<(Choice, usize), Stop>
+    requires { IsAt tokens.now at (at + 1) (OfKind (token.Keyword keyword.If)) }
+    ensures found { IfOk result (λ c. ChoiceRead depth tokens.now at c.1 c.0) }
+    ensures refused { IfRefused result (λ r. Refuses language depth tokens.now at (of_exp line) r) }
+{
+    let test = exp(alloc, tokens, at + 1, depth, levels)?;
+    let begin = expect(alloc, tokens, test.end, TokenKind::Keyword(Keyword::Then))?;
+    let first = exp(alloc, tokens, begin, depth, levels)?;
+    let next = expect(alloc, tokens, first.end, TokenKind::Keyword(Keyword::Else))?;
+    let covered = span(tokens, at, first.end);
+    let one = Choice {
+        span: covered,
+        test,
+        first,
+    };
+    Ok((one, next))
+}
+
+/// An expression that is no statement and no `if`.
+#[cycle(exp)]
+#[inline(never)]
+fn unconditional(
+    alloc: Global,
+    tokens: &Tokens,
+    at: usize,
+    depth: usize,
+    levels: usize,
+) -> Result<Parsed<Line>, Stop>
+    requires { Other tokens.now at (OfKind (token.Keyword keyword.If)) }
+    ensures moves { IfOk result (λ p. Moves tokens.now at p.end) }
+    ensures found { IfOk result (λ p. Reads language depth tokens.now at p.end (of_exp line) (ended p.tree)) }
+    ensures refused { IfRefused result (λ r. Refuses language depth tokens.now at (of_exp line) r) }
+{
+    if sees(tokens, at, TokenKind::Keyword(Keyword::Fn)) {
         let made = lambda(alloc, tokens, at, depth, levels)?;
         Ok(made)
     } else if sees(tokens, at, TokenKind::Keyword(Keyword::Case)) {

@@ -1,22 +1,21 @@
 //! How high the tree of an expression may be.
-ghost use Rattle.std.specs.Prelude.{◌≡◌, ◌<◌, ◌+◌, ◌*◌, ◌-◌, OnOk};
+ghost use Rattle.std.specs.Prelude.{◌≡◌, ◌<◌, ◌*◌, ◌-◌, OnOk};
 ghost use Rattle.ur_parse_rules.specs.Places.{IfRefused};
 
 use ur_base::Stop;
-use ur_parse_con::{MAX_NESTING, MAX_PARENTHESES};
+use ur_parse_con::MAX_NESTING;
 use ur_parse_rules::MAX_LEVELS;
 
 /// The levels of a tree for which there is no stack while an expression around it is read.
 const OPEN_LEVELS: usize = 12;
 
-/// The greatest height of an expression in which `depth` more may nest and which has `levels` signs and `else if` left:
-/// what is read around it has its part of the stack, which a tree needs when it is let go.
-pub fn greatest_height(depth: usize, levels: usize) -> usize
-    ensures { result ≡ MAX_LEVELS - (OPEN_LEVELS * (MAX_NESTING - 1 - depth) + (MAX_PARENTHESES - levels)) }
+/// The greatest height of an expression in which `depth` more may nest: what is read around it has its part of the stack,
+/// which a tree needs when it is let go.
+pub fn greatest_height(depth: usize) -> usize
+    ensures { result ≡ MAX_LEVELS - OPEN_LEVELS * (MAX_NESTING - 1 - depth) }
 {
     let open = (MAX_NESTING - 1).saturating_sub(depth);
-    let calls = MAX_PARENTHESES.saturating_sub(levels);
-    MAX_LEVELS.saturating_sub(OPEN_LEVELS * open + calls)
+    MAX_LEVELS.saturating_sub(OPEN_LEVELS * open)
 }
 
 /// Passes where a tree of a height may get one level more, up to the greatest height.

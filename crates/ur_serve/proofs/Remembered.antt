@@ -1,5 +1,6 @@
 -- A page that is remembered is the program's answer, and stays worth it.
-use Rattle.std.proofs.Common.{◌≡◌, ℕ, zero, suc, ◌<◌, ◌||◌, Bool, true, false, not, All, if◌then◌else◌, List, [], ◌∷◌, ◌++◌, map, length, position, remove, take, Option, Some, None, slice_get, refl, sym, ap, subst, ◌∙◌, true≢false, inl, inr, arith}
+use Rattle.std.proofs.Common.{◌≡◌, ℕ, zero, suc, ◌<◌, ◌||◌, Bool, true, false, not, All, if◌then◌else◌, List, [], ◌∷◌, ◌++◌, map, length, position}
+use Rattle.std.proofs.Common.{remove, take, Option, Some, None, slice_get, refl, sym, ap, subst, ◌∙◌, true≢false, inl, inr, arith}
 use Rattle.std.specs.Prelude.{◌⊎◌, IfSome}
 use Rattle.std.specs.List.{AllByRecursion}
 use Rattle.std.proofs.lemmas.List.Elements.{recursion_from_All, All-from_recursion, All-get_or, All-take, All-filter}

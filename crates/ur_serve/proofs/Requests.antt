@@ -1,5 +1,6 @@
 -- The calls of requests.
-use Rattle.std.proofs.Common.{◌≡◌, ℕ, Bool, true, false, if◌then◌else◌, List, [], ◌∷◌, ◌++◌, Option, Some, None, option_map, option_and_then, slice_get, refl, sym, ap, subst, ◌∙◌}
+use Rattle.std.proofs.Common.{◌≡◌, ℕ, Bool, true, false, if◌then◌else◌, List, [], ◌∷◌, ◌++◌, Option, Some, None, option_map, option_and_then}
+use Rattle.std.proofs.Common.{slice_get, refl, sym, ap, subst, ◌∙◌}
 use Rattle.std.specs.Prelude.{All, IsUtf8, is_some}
 use Rattle.std.specs.List.{AllZip, AllByRecursion}
 use Rattle.std.proofs.lemmas.List.{append-nil}
@@ -23,7 +24,8 @@ use Rattle.ur_machine.specs.Cookies.{first_value}
 use Rattle.ur_machine.proofs.Fitting.{first_is_utf8}
 use Rattle.ur_serve.specs.declared.ends.Routed.{Routed}
 use Rattle.ur_serve.specs.declared.ends.Routed.TheVariants as routing
-use Rattle.ur_serve.specs.Replies.{handled, turned_away, called, if_answered, by_method, routed_at, routed_to, if_known, routed, allow, with_form, with_record, fields_of, field_value}
+use Rattle.ur_serve.specs.Replies.{handled, turned_away, called, if_answered, by_method, routed_at, routed_to, if_known, routed, allow, with_form}
+use Rattle.ur_serve.specs.Replies.{with_record, fields_of, field_value}
 use Rattle.ur_serve.specs.Replies as meant
 use Rattle.ur_serve.specs.Routes.{IsBare, AreBare}
 use Rattle.ur_serve.specs.Served.{IsRoutedAs, IfHandled, IfAway}

@@ -1,5 +1,6 @@
 -- The answer to a request, over what a call of the program means.
-use Rattle.std.specs.Prelude.{◌≡◌, ℕ, Bool, true, false, ◌||◌, List, [], ◌∷◌, ◌++◌, Option, Some, None, if◌then◌else◌, codes, slice_get, is_some, option_map, option_and_then}
+use Rattle.std.specs.Prelude.{◌≡◌, ℕ, Bool, true, false, ◌||◌, List, [], ◌∷◌, ◌++◌, Option, Some, None, if◌then◌else◌, codes, slice_get, is_some}
+use Rattle.std.specs.Prelude.{option_map, option_and_then}
 use Rattle.ur_base.specs.declared.names.Name.{Name}
 use Rattle.ur_values.specs.declared.value.Value.{Value}
 use Rattle.ur_values.specs.declared.value.Value.TheVariants as v

@@ -45,9 +45,10 @@ impl Model for Server {
 }
 
 impl Server {
-    ghost use Rattle.std.specs.Prelude.{◌≡◌, ◌≢◌, ◌≤◌, false, [], IfOk, IfErr, OnOk, OnErr, IsErrOf};
+    ghost use Rattle.std.specs.Prelude.{◌≡◌, ◌≤◌, false, [], IfOk, IfErr, OnOk, OnErr, IsErrOf};
     ghost use Rattle.ur_base.specs.Counts.{Rose};
     ghost use Rattle.ur_base.specs.Told.{WhereTold};
+    ghost use Rattle.ur_values.specs.Extends.{extends};
     ghost use Rattle.ur_keeper.specs.declared.keeper.Attached.TheVariants.{Ready, Differs as Other};
     ghost use Rattle.ur_keeper.specs.Keeper.{AttachesTo};
     ghost use Rattle.ur_keeper.specs.Tables.{NumbersUpTo, AreSound};
@@ -73,11 +74,12 @@ impl Server {
         requires at_rest { K.under_way keeper.old ≡ false }
         ensures made { IfOk result (λ s. s ≡ record { code = verified; patterns = patterns; cache = record { capacity = cache; entries = []; masks = [] }; steps = steps; pages = [] }) }
         ensures ready { IfOk result (λ s. IsReady s (K.kept keeper.new) (K.under_way keeper.new) (K.saved keeper.new)) }
-        // Where the kept schema was told: an empty store has the schema's empty tables, and one with an equal schema is as it was.
+        // Where the kept schema was told: an empty store has the schema's empty tables, and one whose schema this one extends has its rows,
+        // with Absent in each new column.
         ensures attached { OnOk result (AttachesTo verified.schema (K.kept keeper.old) Ready (K.saved keeper.old) (K.saved keeper.new)) }
         ensures sound { OnOk result (WhereTold (K.saved keeper.new) (AreSound verified.schema)) }
         ensures numbers { OnOk result (WhereTold (K.saved keeper.new) (NumbersUpTo 4611686018427387904)) }
-        ensures differs { IfErr result (λ e. IfDiffers e (λ kept. (kept ≢ verified.schema) × AttachesTo verified.schema (K.kept keeper.old) (Other kept) (K.saved keeper.old) (K.saved keeper.new))) }
+        ensures differs { IfErr result (λ e. IfDiffers e (λ kept. (extends verified.schema kept ≡ false) × AttachesTo verified.schema (K.kept keeper.old) (Other kept) (K.saved keeper.old) (K.saved keeper.new))) }
         ensures keeper { IsErrOf result NewEnd.Keeper → Rose (K.faults keeper.old) (K.faults keeper.new) }
         ensures err { OnErr result ((K.saved keeper.new ≡ K.saved keeper.old) × (K.kept keeper.new ≡ K.kept keeper.old) × (K.under_way keeper.new ≡ false)) }
         ensures reads { K.reads keeper.new ≡ K.reads keeper.old }

@@ -6,6 +6,7 @@ pub mod Joining
 pub mod KeyedGroups
 pub mod Makes
 pub mod Members
+pub mod NewKeys
 pub mod NewRows
 pub mod Operands
 pub mod Outcome

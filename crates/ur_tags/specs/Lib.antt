@@ -1,4 +1,5 @@
 pub mod Paths
 pub mod Routes
+pub mod Runs
 pub mod Segments
 pub mod Show

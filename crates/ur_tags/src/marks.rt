@@ -1,50 +1,79 @@
 //! Texts, tags and attributes.
-ghost use Rattle.std.specs.Prelude.{◌≡◌, ◌++◌, OnOk, codes};
+ghost use Rattle.std.specs.Prelude.{◌≡◌, ◌≤◌, ◌<◌, [], ◌∷◌, ◌++◌, length, IfOk, OnOk, MatchOption, option_map, codes};
 ghost use Rattle.std.specs.List.{flat_map};
+ghost use Rattle.ur_tags.specs.Runs.{LeadsOn};
 ghost use Rattle.ur_tags.specs.Show as shown;
 
-use std::slice;
 use ur_base::{Bytes, List, Memory, Text};
 use ur_values::Tag;
 
-/// Adds a text.
+/// Adds a text. Bytes that show as they are go in runs.
 pub fn push_text(out: &mut Bytes, text: &[u8]) -> Result<(), Memory>
     ensures { OnOk result (out.new ≡ out.old ++ flat_map shown.escape text.now) }
 {
-    for byte in text {
-        out.extend_from_slice(escaped(byte))?;
+    let mut from = 0;
+    for at in 0..text.len() {
+        let next = push_run(out, text, from, at, escaped(text[at]))?;
+        from = next;
     }
+    out.extend_from_slice(&text[from..])?;
     Ok(())
 }
 
-/// The byte as text shows it.
-fn escaped(byte: &u8) -> &[u8]
-    ensures { result.now ≡ shown.escape byte.now }
+/// Adds the run that ends before this byte, and the piece that stands for the byte; where there is none, the run goes on. Gives
+/// where the run begins that comes next.
+pub(crate) fn push_run(
+    out: &mut Bytes,
+    text: &[u8],
+    from: usize,
+    at: usize,
+    piece: Option<&[u8]>,
+) -> Result<usize, Memory>
+    requires within { at < length text.now }
+    requires run { from ≤ at }
+    ensures { IfOk result (λ next. LeadsOn out.old out.new text.now from next at (option_map (λ p. p.now) piece.entry)) }
 {
-    match *byte {
-        b'&' => b"&amp;",
-        b'<' => b"&lt;",
-        b'>' => b"&gt;",
-        _ => slice::from_ref(byte),
+    match piece {
+        None => Ok(from),
+        Some(piece) => {
+            out.extend_from_slice(&text[from..at])?;
+            out.extend_from_slice(piece)?;
+            Ok(at + 1)
+        }
     }
 }
 
-/// Adds what stands between the quotes of an attribute.
+/// How text shows the byte, where it does not show as it is.
+fn escaped(byte: u8) -> Option<&'static [u8]>
+    ensures { MatchOption result (shown.escape byte ≡ byte ∷ []) (λ piece. piece.now ≡ shown.escape byte) }
+{
+    match byte {
+        b'&' => Some(b"&amp;"),
+        b'<' => Some(b"&lt;"),
+        b'>' => Some(b"&gt;"),
+        _ => None,
+    }
+}
+
+/// Adds what stands between the quotes of an attribute, in runs.
 fn push_quoted(out: &mut Bytes, text: &[u8]) -> Result<(), Memory>
     ensures { OnOk result (out.new ≡ out.old ++ flat_map shown.escape_quoted text.now) }
 {
-    for byte in text {
-        out.extend_from_slice(escaped_quoted(byte))?;
+    let mut from = 0;
+    for at in 0..text.len() {
+        let next = push_run(out, text, from, at, escaped_quoted(text[at]))?;
+        from = next;
     }
+    out.extend_from_slice(&text[from..])?;
     Ok(())
 }
 
-/// The byte as an attribute shows it.
-fn escaped_quoted(byte: &u8) -> &[u8]
-    ensures { result.now ≡ shown.escape_quoted byte.now }
+/// How an attribute shows the byte, where it does not show as it is.
+fn escaped_quoted(byte: u8) -> Option<&'static [u8]>
+    ensures { MatchOption result (shown.escape_quoted byte ≡ byte ∷ []) (λ piece. piece.now ≡ shown.escape_quoted byte) }
 {
-    if *byte == b'"' {
-        b"&quot;"
+    if byte == b'"' {
+        Some(b"&quot;")
     } else {
         escaped(byte)
     }
@@ -61,6 +90,7 @@ pub fn push_attribute(out: &mut Bytes, name: &[u8], value: &[u8]) -> Result<(), 
     out.push(b'"')
 }
 
+/// The same where there is a value.
 pub fn push_attribute_if_any(
     out: &mut Bytes,
     name: &[u8],

@@ -9,7 +9,7 @@ use crate::marks::{
     is_void, push_attribute, push_attribute_if_any, push_close, push_open, push_tag_attributes,
     push_text, tag_word,
 };
-use crate::paths::path;
+use crate::paths::push_path;
 use std::alloc::Global;
 use ur_base::{Bytes, List, Memory, Text};
 use ur_values::{Call, Node, Tag};
@@ -38,10 +38,7 @@ fn push_node(alloc: Global, handlers: &Handlers, out: &mut Bytes, node: &Node) -
     match node {
         Node::Text(text) => push_text(out, text.as_slice()),
         Node::Element(tag, inner) => push_element(alloc, handlers, out, *tag, inner),
-        Node::Link(call, inner) => {
-            let path = path(alloc, handlers, call)?;
-            push_link(alloc, handlers, out, path.as_slice(), inner)
-        }
+        Node::Link(call, inner) => push_link(alloc, handlers, out, inner, call),
         Node::Field(kind, name, value) => push_field(out, *kind, name.as_slice(), value),
         Node::Submit(call, label) => push_submit(alloc, handlers, out, call, label),
     }
@@ -74,13 +71,13 @@ fn push_link(
     alloc: Global,
     handlers: &Handlers,
     out: &mut Bytes,
-    path: &[u8],
     inner: &List<Node>,
+    call: &Call,
 ) -> Result<(), Memory>
-    ensures { OnOk result (out.new ≡ out.old ++ shown.link path.now (shown.show_nodes handlers.now inner.now)) }
+    ensures { OnOk result (out.new ≡ out.old ++ shown.link (path_of handlers.now call.now) (shown.show_nodes handlers.now inner.now)) }
 {
     push_open(out, b"a")?;
-    push_attribute(out, b"href", path)?;
+    push_path_attribute(alloc, handlers, out, b"href", call)?;
     out.push(b'>')?;
     push_nodes(alloc, handlers, out, inner.as_slice())?;
     push_close(out, b"a")?;
@@ -96,11 +93,28 @@ fn push_submit(
 ) -> Result<(), Memory>
     ensures { OnOk result (out.new ≡ out.old ++ shown.submit (path_of handlers.now call.now) label.now) }
 {
-    let path = path(alloc, handlers, call)?;
     push_open(out, b"input")?;
     push_attribute(out, b"type", b"submit")?;
-    push_attribute(out, b"formaction", path.as_slice())?;
+    push_path_attribute(alloc, handlers, out, b"formaction", call)?;
     push_attribute_if_any(out, b"value", label)?;
     out.extend_from_slice(b"/>")?;
+    Ok(())
+}
+
+/// Adds ` name="path"`. A path shows as it is.
+fn push_path_attribute(
+    alloc: Global,
+    handlers: &Handlers,
+    out: &mut Bytes,
+    name: &[u8],
+    call: &Call,
+) -> Result<(), Memory>
+    ensures { OnOk result (out.new ≡ out.old ++ shown.attribute name.now (path_of handlers.now call.now)) }
+{
+    out.push(b' ')?;
+    out.extend_from_slice(name)?;
+    out.extend_from_slice(b"=\"")?;
+    push_path(alloc, out, handlers, call)?;
+    out.push(b'"')?;
     Ok(())
 }

@@ -20,6 +20,16 @@ pub fn show(alloc: Global, handlers: &Handlers, page: &Value) -> Result<Bytes, M
     Ok(out)
 }
 
+/// The bytes of a page whose parts have these bytes.
+pub fn document(alloc: Global, parts: &[u8]) -> Result<Bytes, Memory>
+    ensures { IfOk result (λ bytes. bytes ≡ shown.document parts.now) }
+{
+    let mut out = List::from_slice(alloc, b"<!DOCTYPE html>\n<html>")?;
+    out.extend_from_slice(parts)?;
+    out.extend_from_slice(b"</html>")?;
+    Ok(out)
+}
+
 /// The bytes of the page of a program error, whose body this is.
 pub fn show_error(alloc: Global, handlers: &Handlers, body: &Value) -> Result<Bytes, Memory>
     ensures { IfOk result (λ bytes. bytes ≡ shown.show_error handlers.now body.now) }

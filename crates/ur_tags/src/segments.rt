@@ -1,14 +1,15 @@
 //! Values as segments of paths.
-ghost use Rattle.std.specs.Prelude.{◌≡◌, ◌++◌, IfOk, IfSome, OnOk, option_map};
+ghost use Rattle.std.specs.Prelude.{◌≡◌, [], ◌∷◌, ◌++◌, IfOk, IfSome, MatchOption, OnOk, option_map};
 ghost use Rattle.std.specs.Str.{is_utf8};
 ghost use Rattle.ur_values.specs.Atom.{IsBasic};
 ghost use Rattle.ur_values.specs.Store.{FitsKind};
 ghost use Rattle.ur_tags.specs.Segments as segments;
 ghost use Rattle.ur_tags.specs.Segments.{SegmentsBack};
 
+use crate::marks::push_run;
 use percent_encoding::{percent_decode, percent_encode_byte};
 use std::alloc::Global;
-use std::{slice, str};
+use std::str;
 use ur_base::{List, Memory, Text};
 use ur_values::{ColumnKind, Value};
 
@@ -77,23 +78,27 @@ fn bool_text(holds: bool) -> &'static [u8]
     if holds { b"True" } else { b"False" }
 }
 
-/// Adds the bytes, percent-encoded.
+/// Adds the bytes, percent-encoded. Unreserved characters go in runs.
 pub fn push_encoded(out: &mut Text, bytes: &[u8]) -> Result<(), Memory>
     ensures { OnOk result (out.new ≡ out.old ++ segments.encode bytes.now) }
 {
-    for byte in bytes {
-        out.extend_from_slice(encoded(byte))?;
+    let mut from = 0;
+    for at in 0..bytes.len() {
+        let next = push_run(out, bytes, from, at, encoded(bytes[at]))?;
+        from = next;
     }
+    out.extend_from_slice(&bytes[from..])?;
     Ok(())
 }
 
-fn encoded(byte: &u8) -> &[u8]
-    ensures { result.now ≡ segments.encode_byte byte.now }
+/// How a segment has the byte, where it does not stand as it is.
+fn encoded(byte: u8) -> Option<&'static [u8]>
+    ensures { MatchOption result (segments.encode_byte byte ≡ byte ∷ []) (λ piece. piece.now ≡ segments.encode_byte byte) }
 {
-    if is_unreserved(*byte) {
-        slice::from_ref(byte)
+    if is_unreserved(byte) {
+        None
     } else {
-        percent_encode_byte(*byte).as_bytes()
+        Some(percent_encode_byte(byte).as_bytes())
     }
 }
 

@@ -8,6 +8,7 @@ use Rattle.ur_words.specs.declared.reading.Reading.{Reading}
 use Rattle.ur_words.specs.declared.reading.Reading.TheVariants.{Check, Sites, Serve, Load}
 use Rattle.ur_words.specs.declared.reading.Settings.{Settings}
 use Rattle.ur_values.specs.declared.schema.Schema.{Schema}
+use Rattle.ur_values.proofs.Extending.{extends-itself}
 use Rattle.ur_keeper.specs.Tables.{Tables, KeptSchema, Untold, Empty, Keeps, Spells}
 use Rattle.ur_tree.specs.declared.typed.Typed.{Typed}
 use Rattle.ur_compile.specs.Accepts.{Accepts}
@@ -119,7 +120,7 @@ any_application told reading P h = of_served told reading (λ files s. (app : Ty
 same_tables : (schema : Schema) (kept : KeptSchema) (saved saved' : Option Tables) → saved' ≡ saved → IsAttached schema kept saved saved'
 same_tables schema Untold saved saved' same = tt
 same_tables schema Empty saved saved' same = inl same
-same_tables schema (Keeps k) saved saved' same = same
+same_tables schema (Keeps k) saved saved' same = inl same
 same_tables schema (Spells text tables) saved saved' same = inl same
 
 -- where no call failed the count is as it was
@@ -166,7 +167,7 @@ idle_obeys told tells reading old new e idle none unasked ends = record {
   unserved = λ x. (idle.saved, idle.kept);
   left = λ x. (nothing, same_tables nothing old.kept old.saved new.saved idle.saved);
   kept = any_application told reading _ (λ s app. inl idle.kept);
-  schema_kept = λ k is. idle.kept ∙ is;
+  schema_kept = λ k is. (k, idle.kept ∙ is, extends-itself k);
   wanting = λ none is. (idle.wire, idle.wire_faults, idle.current);
   at_rest = idle.at_rest;
   shelf_later = idle.shelf_later;

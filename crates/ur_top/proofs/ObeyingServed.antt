@@ -1,5 +1,6 @@
 -- What is so after a project was served.
-use Rattle.std.proofs.Common.{◌≡◌, ◌≢◌, inl, inr, ℕ, zero, suc, ◌+◌, ◌≤◌, ◌<◌, Bool, true, false, List, [], ◌∷◌, length, Option, Some, None, Any, refl, sym, ap, subst, ◌∙◌, arith}
+use Rattle.std.proofs.Common.{◌≡◌, ◌≢◌, inl, inr, ℕ, zero, suc, ◌+◌, ◌≤◌, ◌<◌, Bool, true, false, List, [], ◌∷◌, length, Option, Some, None, Any}
+use Rattle.std.proofs.Common.{refl, sym, ap, subst, ◌∙◌, arith}
 use Rattle.std.specs.Prelude.{IsSome}
 use Rattle.std.proofs.lemmas.Bool.{false≢true}
 use Rattle.std.proofs.lemmas.List.Sums.{sum_by-cons}
@@ -13,6 +14,8 @@ use Rattle.ur_words.specs.declared.reading.Reading.{Reading}
 use Rattle.ur_words.specs.declared.reading.Reading.TheVariants.{Replay, Serve}
 use Rattle.ur_words.specs.declared.reading.Settings.{Settings}
 use Rattle.ur_values.specs.declared.schema.Schema.{Schema}
+use Rattle.ur_values.specs.Extends.{extends}
+use Rattle.ur_keeper.specs.Growing.{grown_tables}
 use Rattle.ur_keeper.specs.Keeper.{AttachesTo, TellsStore, HasOther}
 use Rattle.ur_keeper.specs.declared.keeper.Attached.TheVariants.{Ready}
 use Rattle.ur_keeper.specs.Tables.{Tables, KeptSchema, Untold, Empty, Keeps, Spells, AreSound, store_of}
@@ -66,17 +69,17 @@ code_of_source app code h routes = record {
 
 -- ---- what `attach` leaves
 
--- a schema that was kept is the application's
-same_schema : (schema other : Schema) (kept : KeptSchema) (saved saved' : Option Tables) → AttachesTo schema kept Ready saved saved' → kept ≡ Keeps other →
-    other ≡ schema
-same_schema schema other kept saved saved' h is = let at = subst (λ k. AttachesTo schema k Ready saved saved') is h in at.0
+-- the application's schema extends one that was kept
+its_extends : (schema other : Schema) (kept : KeptSchema) (saved saved' : Option Tables) → AttachesTo schema kept Ready saved saved' → kept ≡ Keeps other →
+    extends schema other ≡ true
+its_extends schema other kept saved saved' h is = let at = subst (λ k. AttachesTo schema k Ready saved saved') is h in at.0
 
 -- no other schema was told
 no_other : (schema : Schema) (kept : KeptSchema) (saved saved' : Option Tables) → AttachesTo schema kept Ready saved saved' → HasOther schema kept → ⊥
 no_other schema Untold saved saved' h other = other
 no_other schema Empty saved saved' h other = other
-no_other schema (Keeps k) saved saved' h other = other h.0
-no_other schema (Spells text tables) saved saved' h other = other h.0
+no_other schema (Keeps k) saved saved' h other = absurd (false≢true (sym other ∙ h.0))
+no_other schema (Spells text tables) saved saved' h other = absurd (false≢true (sym (other h.0 h.1) ∙ h.2))
 
 -- where it was told what the store has, the tables are told
 pub tells_after : (schema : Schema) (kept : KeptSchema) (saved saved' : Option Tables) → AttachesTo schema kept Ready saved saved' → TellsStore kept saved →
@@ -84,14 +87,15 @@ pub tells_after : (schema : Schema) (kept : KeptSchema) (saved saved' : Option T
 tells_after schema Untold saved saved' h tells = absurd tells
 tells_after schema Empty None saved' h tells = absurd (false≢true tells)
 tells_after schema Empty (Some t) saved' h tells = subst IsSome (sym h) refl
-tells_after schema (Keeps k) saved saved' h tells = subst IsSome (sym h.1) tells
-tells_after schema (Spells text tables) saved saved' h tells = subst IsSome (sym h.1) refl
+tells_after schema (Keeps k) None saved' h tells = absurd (false≢true tells)
+tells_after schema (Keeps k) (Some t) saved' h tells = subst IsSome (sym h.1) refl
+tells_after schema (Spells text tables) saved saved' h tells = subst IsSome (sym h.3) refl
 
 is_attached : (schema : Schema) (kept : KeptSchema) (saved saved' : Option Tables) → AttachesTo schema kept Ready saved saved' →
     IsAttached schema kept saved saved'
 is_attached schema Untold saved saved' h = tt
 is_attached schema Empty saved saved' h = inr h
-is_attached schema (Keeps k) saved saved' h = h.1
+is_attached schema (Keeps k) saved saved' h = inr h
 is_attached schema (Spells text tables) saved saved' h = inr h
 
 attach_leaves : (schema : Schema) (kept : KeptSchema) (saved : Option Tables) (tables : Tables) → AttachesTo schema kept Ready saved (Some tables) →
@@ -99,8 +103,8 @@ attach_leaves : (schema : Schema) (kept : KeptSchema) (saved : Option Tables) (t
 attach_leaves schema Untold saved tables h = tt
 attach_leaves schema Empty None tables h = cc
 attach_leaves schema Empty (Some t) tables h = cc
-attach_leaves schema (Keeps k) saved tables h = sym h.1
-attach_leaves schema (Spells text has) saved tables h = cc
+attach_leaves schema (Keeps k) saved tables h = h.1
+attach_leaves schema (Spells text has) saved tables h = (h.0, h.1, h.2, (let same : Some tables ≡ Some (grown_tables schema h.0 (has h.0)) = h.3 in cc))
 
 -- ---- what was served
 
@@ -197,7 +201,7 @@ module _ (one : OneApplication) (law : ServedRunServes) (links : LinksOfSourceLe
       unserved = λ x. absurd (serves x);
       left = λ x. (s.code.schema, subst (IsAttached s.code.schema old.kept old.saved) (sym (h.idle x).2) (is_attached s.code.schema old.kept old.saved mid.saved started.server.attached));
       kept = of_app _ (λ app code. inr (h.kept ∙ started.server.ready.schema ∙ ap Keeps code.schema));
-      schema_kept = λ k is. h.kept ∙ started.server.ready.schema ∙ ap Keeps (sym (same_schema s.code.schema k old.kept old.saved mid.saved started.server.attached is));
+      schema_kept = λ k is. (s.code.schema, h.kept ∙ started.server.ready.schema, its_extends s.code.schema k old.kept old.saved mid.saved started.server.attached is);
       at_rest = h.at_rest;
       shelf_later = h.shelf_later;
       wire_later = h.wire_later;

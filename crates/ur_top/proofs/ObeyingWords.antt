@@ -3,7 +3,8 @@ use Rattle.std.proofs.Common.{◌≡◌, ℕ, ◌≤◌, ◌<◌, Bool, true, fa
 use Rattle.std.specs.Prelude.{IsSome, bytes_eq, nat_le, option_map, option_and_then, codes}
 use Rattle.std.specs.Str.Parse.{digits_value}
 use Rattle.std.proofs.lemmas.Bool.Decides.{nat_tests}
-use Rattle.ur_words.specs.Words.{is_number, number_in, number_or, settings_of, serve_of, load_of, value_of, are_new, names_in, words_in, name_of, options_of, made_of, once_of, items_of, read_as, read}
+use Rattle.ur_words.specs.Words.{is_number, number_in, number_or, settings_of, serve_of, load_of, value_of, are_new, names_in, words_in, name_of}
+use Rattle.ur_words.specs.Words.{options_of, made_of, once_of, items_of, read_as, read}
 use Rattle.ur_words.specs.declared.reading.Reading.{Reading}
 use Rattle.ur_words.specs.declared.reading.Reading.TheVariants as reading
 use Rattle.ur_top.specs.Ends.{ServesSome}

@@ -25,7 +25,7 @@ is_kept : (kept application : Schema) (k : KeptSchema) (saved saved' : Option Ta
 is_kept kept application Untold saved saved' h = tt
 is_kept kept application Empty saved saved' h = tt
 is_kept kept application (Keeps other) saved saved' h = sym h.0
-is_kept kept application (Spells text tables) saved saved' h = h.0
+is_kept kept application (Spells text tables) saved saved' h = h.0.spells
 
 module _ (told : Option Files) (reading : Option Reading) (old new : World) (sessions : List SessionEnd) (status : ℕ) where
   abbrev IsPrinted : ℕ → List ℕ → Type 0

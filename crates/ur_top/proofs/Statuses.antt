@@ -1,5 +1,6 @@
 -- What the end of a run says of its status: one lemma a clause.
-use Rattle.std.proofs.Common.{◌≡◌, ◌≢◌, ◌⊎◌, inl, inr, ℕ, ◌+◌, min, false, List, [], ◌∷◌, length, Option, Some, None, Contains, Any, refl, sym, ap, subst, ◌∙◌, arith}
+use Rattle.std.proofs.Common.{◌≡◌, ◌≢◌, ◌⊎◌, inl, inr, ℕ, ◌+◌, min, false, List, [], ◌∷◌, length, Option, Some, None, Contains, Any, refl, sym, ap}
+use Rattle.std.proofs.Common.{subst, ◌∙◌, arith}
 use Rattle.ur_base.specs.Counts.{Rose, RoseBy}
 use Rattle.ur_base.specs.Told.{WhereTold}
 use Rattle.ur_base.specs.declared.refusal.Refusal.{Refusal}
@@ -10,20 +11,23 @@ use Rattle.ur_io.specs.declared.session.SessionEnd.{SessionEnd}
 use Rattle.ur_words.specs.declared.reading.Reading.{Reading}
 use Rattle.ur_words.specs.declared.reading.Reading.TheVariants.{Check, Sites, Replay, Serve, Load}
 use Rattle.ur_values.specs.declared.schema.Schema.{Schema}
+use Rattle.std.proofs.lemmas.Bool.{false≢true}
 use Rattle.ur_keeper.specs.Tables.{Tables, KeptSchema, Untold, Empty, Keeps, Spells}
 use Rattle.ur_keeper.specs.Keeper.{AttachesTo, CanTake, HasOther}
 use Rattle.ur_keeper.specs.declared.keeper.Attached.TheVariants.{Differs}
 use Rattle.ur_tree.specs.declared.typed.Typed.{Typed}
 use Rattle.ur_compile.specs.Accepts.{Accepts, HasOneApplication}
 use Rattle.ur_compile.specs.Explains.{Refuses}
-use Rattle.ur_headline.specs.Counting.{wire_faults, next_failed, keeper_faults, IsCutOff, IsWireStatus, HasAllMarks, LeftOut, AnyWants, AllDone, WantsMemory, IsWhole}
+use Rattle.ur_headline.specs.Counting.{wire_faults, next_failed, keeper_faults, IsCutOff, IsWireStatus, HasAllMarks, LeftOut, AnyWants, AllDone}
+use Rattle.ur_headline.specs.Counting.{WantsMemory, IsWhole}
 use Rattle.ur_headline.specs.Readings.{Serving, serving, IfServing, ForServing}
 use Rattle.ur_headline.proofs.Counting.{all_done_or_want}
 use Rattle.ur_top.specs.Sources.{ForReport, ForSource, OfSource, OfApplication, Compiles, IsCoded, IsCompiled, HasNoCode}
 use Rattle.ur_top.specs.Ends.{World, NoCalls, SameWire, IsServed, IsWant, Ends, failed_next, IsStatus, IsUnserved, HasFiles}
 use Rattle.ur_top.specs.declared.reporting.RunEnd.{RunEnd}
 use Rattle.ur_top.specs.declared.reporting.RunEnd.TheVariants as end
-use Rattle.ur_top.proofs.Cases.{split, nothing_in, none_cut, told_is, told_more, if_serving, of_served, at_served, of_source, from_source, no_source, not_served, clashes, none_failed, one_failed}
+use Rattle.ur_top.proofs.Cases.{split, nothing_in, none_cut, told_is, told_more, if_serving, of_served, at_served, of_source, from_source, no_source}
+use Rattle.ur_top.proofs.Cases.{not_served, clashes, none_failed, one_failed}
 
 -- a command that is reported of is not served
 check_serves : (r : Option Reading) (p : List ℕ) → r ≡ Some (Check p) → serving r ≡ None
@@ -108,8 +112,8 @@ module _ (told : Option Files) (reading : Option Reading) (old new : World) (ses
     differs_not : (kept schema : Schema) (k : KeptSchema) (saved saved' : Option Tables) → CanTake schema k → AttachesTo schema k (Differs kept) saved saved' → ⊥
     differs_not kept schema Untold saved saved' can h = can
     differs_not kept schema Empty saved saved' can h = h
-    differs_not kept schema (Keeps k) saved saved' can h = h.1 can
-    differs_not kept schema (Spells text tables) saved saved' can h = h.1 can
+    differs_not kept schema (Keeps k) saved saved' can h = absurd (false≢true (sym h.1 ∙ can))
+    differs_not kept schema (Spells text tables) saved saved' can h = absurd (false≢true (sym h.1 ∙ can kept h.0))
 
     kept_differs : (kept application schema : Schema) (k : KeptSchema) (saved saved' : Option Tables) → application ≡ schema → CanTake schema k → AttachesTo application k (Differs kept) saved saved' → ⊥
     kept_differs kept application schema k saved saved' same can h = differs_not kept schema k saved saved' can (subst (λ z. AttachesTo z k (Differs kept) saved saved') same h)

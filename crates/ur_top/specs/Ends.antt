@@ -11,6 +11,7 @@ use Rattle.ur_words.specs.declared.reading.Reading.{Reading}
 use Rattle.ur_words.specs.declared.reading.Reading.TheVariants.{Check, Sites, Replay, Serve, Load}
 use Rattle.ur_words.specs.declared.reading.Settings.{Settings}
 use Rattle.ur_values.specs.declared.schema.Schema.{Schema}
+use Rattle.ur_values.specs.Extends.{extends}
 use Rattle.ur_keeper.specs.Keeper.{AttachesTo, HasOther}
 use Rattle.ur_keeper.specs.declared.keeper.Attached.TheVariants.{Differs}
 use Rattle.ur_keeper.specs.Tables.{Tables, KeptSchema}
@@ -73,7 +74,7 @@ pub record NoCalls (old new : World) (sessions : List SessionEnd) : Type 0 where
 abbrev pub SameWire : World → World → Type 0
 SameWire old new = (new.wire ≡ old.wire) × (new.wire_faults ≡ old.wire_faults) × (new.current ≡ old.current)
 
--- the keeper told no other schema than the application's
+-- the keeper told no schema that the application's does not extend
 abbrev pub AttachedTo : Option Files → Option Reading → World → Type 0
 AttachedTo told reading old = OfApplication told reading (λ app. HasOther app.schema old.kept → ⊥)
 
@@ -101,12 +102,12 @@ pub record IsWant (told : Option Files) (reading : Option Reading) (old new : Wo
   pub same_schema : sessions ≢ [] → AttachedTo told reading old
   pub whole : (p : List ℕ) (s : Settings) → reading ≡ Some (Replay p s) → Any IsCutOff sessions → ⊥
 
--- the keeper keeps another schema
+-- the keeper keeps a schema that the application's does not extend
 pub record IsOtherSchema (told : Option Files) (reading : Option Reading) (old new : World) (sessions : List SessionEnd) (kept application : Schema) : Type 0 where
   pub compiled : IsCompiled told reading
   pub serves : serving reading ≢ None
   pub its : OfApplication told reading (λ app. application ≡ app.schema)
-  pub differs : kept ≢ application
+  pub differs : extends application kept ≡ false
   pub attaches : AttachesTo application old.kept (Differs kept) old.saved new.saved
   pub same_saved : new.saved ≡ old.saved
   pub same_kept : new.kept ≡ old.kept

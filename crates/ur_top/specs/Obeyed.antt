@@ -1,5 +1,5 @@
 -- What is so after a command was obeyed, all but its report.
-use Rattle.std.specs.Prelude.{◌≡◌, ◌≢◌, ◌⊎◌, ◌+◌, ◌≤◌, false, List, [], length, Option, None}
+use Rattle.std.specs.Prelude.{◌≡◌, ◌≢◌, ◌⊎◌, ◌+◌, ◌≤◌, true, false, List, [], length, Option, None}
 use Rattle.ur_base.specs.Counts.{RoseBy}
 use Rattle.ur_base.specs.Told.{WhereTold, Tells}
 use Rattle.ur_io.specs.Calls.{count_after}
@@ -7,6 +7,7 @@ use Rattle.ur_io.specs.Files.{Files}
 use Rattle.ur_io.specs.declared.session.SessionEnd.{SessionEnd}
 use Rattle.ur_words.specs.declared.reading.Reading.{Reading}
 use Rattle.ur_values.specs.declared.schema.Schema.{Schema}
+use Rattle.ur_values.specs.Extends.{extends}
 use Rattle.ur_keeper.specs.Tables.{Keeps, store_of}
 use Rattle.ur_headline.specs.Counting.{keeper_faults, wire_faults}
 use Rattle.ur_headline.specs.Readings.{serving, ForServing}
@@ -37,7 +38,7 @@ pub record Obeyed (told : Option Files) (tells : Type 0) (reading : Option Readi
   pub unserved : IsUnserved e → (new.saved ≡ old.saved) × (new.kept ≡ old.kept)
   pub left : sessions ≡ [] → (schema : Schema) × IsAttached schema old.kept old.saved new.saved
   pub kept : ForApplication told reading (λ s app. (new.kept ≡ old.kept) ⊎ (new.kept ≡ Keeps app.schema))
-  pub schema_kept : (k : Schema) → old.kept ≡ Keeps k → new.kept ≡ Keeps k
+  pub schema_kept : (k : Schema) → old.kept ≡ Keeps k → (s : Schema) × (new.kept ≡ Keeps s) × (extends s k ≡ true)
   pub at_rest : new.under_way ≡ false
   pub shelf_later : old.shelf_faults ≤ new.shelf_faults
   pub wire_later : old.wire_faults ≤ new.wire_faults

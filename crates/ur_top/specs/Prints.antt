@@ -1,5 +1,5 @@
 -- What a run prints.
-use Rattle.std.specs.Prelude.{◌≡◌, ◌≢◌, ◌⊎◌, ℕ, List, [], ◌++◌, length, Option, Some, None, ⊤}
+use Rattle.std.specs.Prelude.{◌≡◌, ◌⊎◌, ℕ, false, List, [], ◌++◌, length, Option, Some, None, ⊤}
 use Rattle.ur_base.specs.declared.refusal.Refusal.{Refusal}
 use Rattle.ur_io.specs.Files.{Files}
 use Rattle.ur_io.specs.Fronts.{IsFront}
@@ -9,6 +9,7 @@ use Rattle.ur_words.specs.declared.reading.Reading.TheVariants.{Check, Sites, Re
 use Rattle.ur_words.specs.declared.reading.Settings.{Settings}
 use Rattle.ur_values.specs.declared.schema.Schema.{Schema}
 use Rattle.ur_values.specs.SchemaText.{schema_text}
+use Rattle.ur_values.specs.Extends.{extends}
 use Rattle.ur_keeper.specs.Tables.{KeptSchema, Keeps, Spells}
 use Rattle.ur_conditions.specs.declared.patterns.Patterns.{Patterns}
 use Rattle.ur_conditions.specs.Patterns.{AreAllPatterns}
@@ -52,7 +53,7 @@ pub data Prints (told : Option Files) (kept : KeptSchema) (reading : Option Read
   loaded : (seed : ℕ) (r : LoadReport) → reading ≡ Some (Load seed r.requests) → IsLoadReport seed r → Prints told kept reading rises sessions 0 (texts.load_report r)
   no_command : reading ≡ None → Prints told kept reading rises sessions 1 texts.usage
   refused : (file : List ℕ) (r : Refusal) → OfSource told reading (λ files word. Refuses files word file r) → Prints told kept reading rises sessions 2 (texts.refusal_line file r)
-  other_schema : (other application : Schema) → OfApplication told reading (λ app. application ≡ app.schema) → other ≢ application → IsKept kept other
+  other_schema : (other application : Schema) → OfApplication told reading (λ app. application ≡ app.schema) → extends application other ≡ false → IsKept kept other
       → Prints told kept reading rises sessions 3 (texts.schema_report other application)
   shelf_fault : rises.shelf → Prints told kept reading rises sessions 4 texts.shelf_fault
   wire_fault : rises.wire → IsWireStatus reading sessions → Prints told kept reading rises sessions 6 (first_line reading ++ texts.wire_fault)

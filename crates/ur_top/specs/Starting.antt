@@ -1,10 +1,11 @@
 -- A project compiled and its server, or how a run ends without them.
-use Rattle.std.specs.Prelude.{◌≡◌, ◌≢◌, ◌≤◌, ℕ, Bool, List, [], length, Option, Some, ⊤}
+use Rattle.std.specs.Prelude.{◌≡◌, ◌≤◌, ℕ, Bool, false, List, [], length, Option, Some, ⊤}
 use Rattle.ur_base.specs.Counts.{Rose}
 use Rattle.ur_base.specs.Told.{WhereTold}
 use Rattle.ur_io.specs.Files.{Files}
 use Rattle.ur_words.specs.declared.reading.Settings.{Settings}
 use Rattle.ur_values.specs.declared.schema.Schema.{Schema}
+use Rattle.ur_values.specs.Extends.{extends}
 use Rattle.ur_keeper.specs.Keeper.{AttachesTo}
 use Rattle.ur_keeper.specs.declared.keeper.Attached.TheVariants.{Ready, Differs}
 use Rattle.ur_keeper.specs.Tables.{Tables, KeptSchema, AreSound, NumbersUpTo}
@@ -71,10 +72,10 @@ pub record Held : Type 0 where
   pub saved : Option Tables
   pub faults : ℕ
 
--- the keeper keeps another schema than the application's
+-- the keeper keeps a schema that the application's does not extend
 pub record HoldsOther (schema : Schema) (old new : Held) (kept application : Schema) : Type 0 where
   pub its : application ≡ schema
-  pub differs : kept ≢ application
+  pub differs : extends application kept ≡ false
   pub attaches : AttachesTo application old.kept (Differs kept) old.saved new.saved
   pub same_saved : new.saved ≡ old.saved
   pub same_kept : new.kept ≡ old.kept
@@ -89,7 +90,7 @@ Unattached schema old new e = ⊥
 -- why a project is not served
 abbrev pub Unstarted : Option Files → List ℕ → ℕ → ℕ → Held → Held → RunEnd → Type 0
 Unstarted told word faults faults' old new (end.Schema kept application) = OfFiles told word (λ app. HoldsOther app.schema old new kept application) × OfFiles told word IsCoded
-    × (kept ≢ application) × AttachesTo application old.kept (Differs kept) old.saved new.saved × (new.saved ≡ old.saved) × (new.kept ≡ old.kept)
+    × (extends application kept ≡ false) × AttachesTo application old.kept (Differs kept) old.saved new.saved × (new.saved ≡ old.saved) × (new.kept ≡ old.kept)
 Unstarted told word faults faults' old new end.Keeper = OfFiles told word IsCoded × Rose old.faults new.faults
 Unstarted told word faults faults' old new e = Uncompiled told word faults faults' e
 

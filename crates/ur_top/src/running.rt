@@ -1,9 +1,10 @@
 //! A run.
-ghost use Rattle.std.specs.Prelude.{◌≡◌, ◌≢◌, ◌⊎◌, ◌≤◌, ℕ, false, List, [], ◌∷◌, ◌++◌, length, Some, None, Any, Contains};
+ghost use Rattle.std.specs.Prelude.{◌≡◌, ◌≢◌, ◌⊎◌, ◌≤◌, ℕ, true, false, List, [], ◌∷◌, ◌++◌, length, Some, None, Any, Contains};
 ghost use Rattle.ur_base.specs.declared.refusal.Refusal.{Refusal};
 ghost use Rattle.ur_base.specs.Counts.{Rose, RoseBy};
 ghost use Rattle.ur_base.specs.Told.{WhereTold};
 ghost use Rattle.ur_values.specs.declared.schema.Schema.{Schema};
+ghost use Rattle.ur_values.specs.Extends.{extends};
 ghost use Rattle.ur_keeper.specs.Keeper.{TellsStore, CanTake, HasOther};
 ghost use Rattle.ur_keeper.specs.Tables.{Keeps};
 ghost use Rattle.ur_compile.specs.Accepts.{HasOneApplication};
@@ -92,7 +93,8 @@ pub fn run<S: Shelf, W: Wire, K: Keeper, O: Sink>(
         → IsLeft app.schema K.kept K.saved keeper.old keeper.new) }
     ensures kept { ForApplication (S.told shelf.old) (asked words.now)
         (λ s app. (K.kept keeper.new ≡ K.kept keeper.old) ⊎ (K.kept keeper.new ≡ Keeps app.schema)) }
-    ensures schema_kept { (k : Schema) → K.kept keeper.old ≡ Keeps k → K.kept keeper.new ≡ Keeps k }
+    // A schema that was kept is kept, or one that extends it.
+    ensures schema_kept { (k : Schema) → K.kept keeper.old ≡ Keeps k → (s : Schema) × (K.kept keeper.new ≡ Keeps s) × (extends s k ≡ true) }
     ensures no_current { ForServing (asked words.now) (λ s. Contains (0 ∷ 6 ∷ []) result.status ⊎ (result.sessions ≢ []) → W.is_current wire.new ≡ false) }
     ensures at_rest { K.under_way keeper.new ≡ false }
     ensures files_kept { S.told shelf.new ≡ S.told shelf.old }

@@ -12,7 +12,7 @@ use ur_parse_rules::ConPlace;
 
 const NESTING: usize = 256;
 
-/// How many signs, or parentheses around kinds, may stand in each other.
+/// How many signs of SQL, or parentheses around kinds, may stand in each other.
 const LEVELS: usize = 1024;
 
 /// A hundred parentheses.
@@ -151,6 +151,23 @@ fn sums(rt: HostRuntime) {
     let shown = chain(b"<xml>{[1", b"+1", b"]}</xml>");
     assert_eq!(rt;
         comes_to(rt.alloc(), Part::Exp, shown, 4095),
+        Outcome::Memory
+    );
+}
+
+/// Signs and `else if` are read in loops.
+#[test]
+fn signs_and_choices(rt: HostRuntime) {
+    let signs = chain(b"", b"- ", b"x");
+    assert_eq!(rt; comes_to(rt.alloc(), Part::Exp, signs, 4095), End(4096));
+    assert_eq!(rt;
+        comes_to(rt.alloc(), Part::Exp, signs, 4096),
+        Outcome::Memory
+    );
+    let choices = chain(b"", b"if b then x else ", b"x");
+    assert_eq!(rt; comes_to(rt.alloc(), Part::Exp, choices, 4095), End(20476));
+    assert_eq!(rt;
+        comes_to(rt.alloc(), Part::Exp, choices, 4096),
         Outcome::Memory
     );
 }

@@ -32,11 +32,14 @@ module _ {X : Type 0} (key : X → List Value) where
   order_total : IsTotalOrder order
   order_total = on_total key (lists_total value_cmp_total)
 
-  none_equal : (k : List Value) (xs : List X) → list_any (values_eq k) (map key xs) ≡ false → AllByRecursion (λ y. is_eq (slice_cmp value_cmp k (key y)) ≡ false) xs
+  none_equal : (k : List Value) (xs : List X) → list_any (values_eq k) (map key xs) ≡ false
+      → AllByRecursion (λ y. is_eq (slice_cmp value_cmp k (key y)) ≡ false) xs
   none_equal k [] h = tt
-  none_equal k (y ∷ ys) h = let p = neither (values_eq k (key y)) (list_any (values_eq k) (map key ys)) h in (sym (values_eq_tie k (key y)) ∙ p.0, none_equal k ys p.1)
+  none_equal k (y ∷ ys) h =
+      let p = neither (values_eq k (key y)) (list_any (values_eq k) (map key ys)) h in (sym (values_eq_tie k (key y)) ∙ p.0, none_equal k ys p.1)
 
-  none_equal_back : (k : List Value) (xs : List X) → AllByRecursion (λ y. is_eq (slice_cmp value_cmp k (key y)) ≡ false) xs → list_any (values_eq k) (map key xs) ≡ false
+  none_equal_back : (k : List Value) (xs : List X) → AllByRecursion (λ y. is_eq (slice_cmp value_cmp k (key y)) ≡ false) xs
+      → list_any (values_eq k) (map key xs) ≡ false
   none_equal_back k [] h = refl
   none_equal_back k (y ∷ ys) h = ap (λ b. b || list_any (values_eq k) (map key ys)) (values_eq_tie k (key y) ∙ h.0) ∙ none_equal_back k ys h.1
 
@@ -56,20 +59,23 @@ module _ {X : Type 0} (key : X → List Value) where
   less Equal p r e f = cc
   less Greater p r e f = cc
 
-  rising : (ys : List X) (d : X) → IsSortedBy (λ x y. is_lt (order x y)) ys → ((k : ℕ) → k + 1 < length ys → (d : X) → is_eq (order (get_or ys k d) (get_or ys (k + 1) d)) ≡ false)
+  rising : (ys : List X) (d : X) → IsSortedBy (λ x y. is_lt (order x y)) ys
+      → ((k : ℕ) → k + 1 < length ys → (d : X) → is_eq (order (get_or ys k d) (get_or ys (k + 1) d)) ≡ false)
       → IsDistinct (eq_by_cmp order) ys
   rising ys d sorted apart =
       IsDistinct-from_sorted order ys
       (sorted_from_all_adjacent order_total ys d (λ k h. less (order (get_or ys k d) (get_or ys (k + 1) d)) (order (get_or ys (k + 1) d) (get_or ys k d))
       (order_total.antisymm (get_or ys (k + 1) d) (get_or ys k d)) (apart k h d) (sorted k d (omega arith) h)))
 
-  distinct : (ys : List X) → IsSortedBy (λ x y. is_lt (order x y)) ys → ((k : ℕ) → k + 1 < length ys → (d : X) → is_eq (order (get_or ys k d) (get_or ys (k + 1) d)) ≡ false)
+  distinct : (ys : List X) → IsSortedBy (λ x y. is_lt (order x y)) ys
+      → ((k : ℕ) → k + 1 < length ys → (d : X) → is_eq (order (get_or ys k d) (get_or ys (k + 1) d)) ≡ false)
       → IsDistinct (eq_by_cmp order) ys
   unfolding IsDistinct
   distinct [] sorted apart = tt
   distinct (y ∷ ys) sorted apart = rising (y ∷ ys) y sorted apart
 
-  clash : (ys : List X) (k : ℕ) → k + 1 < length ys → ((d : X) → is_eq (order (get_or ys k d) (get_or ys (k + 1) d)) ≡ true) → IsDistinct (eq_by_cmp order) ys → ⊥
+  clash : (ys : List X) (k : ℕ) → k + 1 < length ys → ((d : X) → is_eq (order (get_or ys k d) (get_or ys (k + 1) d)) ≡ true) → IsDistinct (eq_by_cmp order) ys
+      → ⊥
   clash [] k h tie d = absurd (omega arith)
   clash (y ∷ ys) k h tie d = let e = apart_from_distinct (eq_by_cmp order) (y ∷ ys) k (k + 1) y d (omega arith) h in let f = tie y in cc
 
@@ -97,14 +103,16 @@ key_in key row = key_of key row.now
 pub weak_order : (key : List ℕ) → IsStrictWeakOrder (λ (x : Bor Row) (y : Bor Row). is_lt (key_cmp key x.now y.now))
 weak_order key = ranks_by (lists_total value_cmp_total) (key_in key)
 
-pub settled_rows : (key : List ℕ) (xs ys : List (Bor Row)) → IsPermutation xs ys → IsSortedBy (λ (x : Bor Row) (y : Bor Row). is_lt (key_cmp key x.now y.now)) ys → (b : Bool)
+pub settled_rows : (key : List ℕ) (xs ys : List (Bor Row)) → IsPermutation xs ys
+    → IsSortedBy (λ (x : Bor Row) (y : Bor Row). is_lt (key_cmp key x.now y.now)) ys → (b : Bool)
     → OnTrue b ((k : ℕ) × (k + 1 < length ys) × ((d : Bor Row) → agree key (get_or ys k d) (get_or ys (k + 1) d) ≡ true))
     → OnFalse b ((k : ℕ) → k + 1 < length ys → (d : Bor Row) → agree key (get_or ys k d) (get_or ys (k + 1) d) ≡ false)
     → b ≡ repeats (map (key_of key) (lent_rows xs))
 settled_rows key xs ys moved sorted b tie apart =
     settled (key_in key) xs ys moved sorted b tie apart ∙ ap repeats (map_twice (key_of key) (λ (row : Bor Row). row.now) xs)
 
-pub side_by_side : (key : List ℕ) (rows : List (Bor Row)) (i : ℕ) (x y d : Bor Row) → 0 < i → i < length rows → x ≡ get_or rows (i - 1) x → y ≡ get_or rows i y → is_eq (key_cmp key x.now y.now) ≡ true
+pub side_by_side : (key : List ℕ) (rows : List (Bor Row)) (i : ℕ) (x y d : Bor Row) → 0 < i → i < length rows → x ≡ get_or rows (i - 1) x → y ≡ get_or rows i y
+    → is_eq (key_cmp key x.now y.now) ≡ true
     → agree key (get_or rows (i - 1) d) (get_or rows (i - 1 + 1) d) ≡ true
 side_by_side key rows i x y d low high p q e =
     let back : i - 1 + 1 ≡ i = omega arith in

@@ -4,7 +4,7 @@ ghost use Rattle.std.specs.Bool.{OnTrue, OnFalse};
 ghost use Rattle.std.specs.Borrow.{Bor};
 ghost use Rattle.ur_values.specs.declared.value.Value.TheVariants as v;
 ghost use Rattle.ur_values.specs.Order.{value_cmp};
-ghost use Rattle.ur_values.specs.Keys.{key_of, repeats, repeated_key};
+ghost use Rattle.ur_values.specs.Keys.{key_of, is_taken, repeats, repeated_key, taken_key};
 ghost use Rattle.ur_values.specs.Store.{Row as RowOf, rows_of};
 ghost use Rattle.ur_values.specs.KeyOrder.{key_cmp, agree, lent_rows};
 
@@ -45,12 +45,46 @@ pub fn repeated_key_of(
     repeated_key(alloc, keys, lent.as_slice())
 }
 
+/// The first key on all of whose columns a row agrees with one of these, sought row by row.
+pub fn taken_key(
+    keys: &List<List<u32>>,
+    rows: &[Numbered],
+    row: &Row,
+) -> Result<Option<u32>, Memory>
+    ensures { IfOk result (λ key. key ≡ taken_key keys.now (rows_of rows.now) row.now) }
+{
+    let keys = keys.as_slice();
+    if keys.len() > u32::MAX as usize {
+        return Err(Memory);
+    }
+    for i in 0..keys.len() {
+        if is_taken(keys[i].as_slice(), rows, row) {
+            return Ok(Some(i as u32));
+        }
+    }
+    Ok(None)
+}
+
+/// Whether a row agrees with one of these on the columns of a key.
+fn is_taken(key: &[u32], rows: &[Numbered], row: &Row) -> bool
+    ensures { result ≡ is_taken (rows_of rows.now) row.now key.now }
+{
+    for other in rows {
+        let values = other.row.get();
+        if compare_at(key, values, row).is_eq() {
+            return true;
+        }
+    }
+    false
+}
+
 fn lent<'a>(alloc: Global, rows: &'a [Numbered]) -> Result<Vec<&'a Row>, Memory>
     ensures { IfOk result (λ lent. lent_rows lent.items ≡ rows_of rows.now) }
 {
     let mut lent: Vec<&'a Row> = Vec::new(alloc);
     for row in rows {
-        lent.push(&row.row)?;
+        let values = row.row.get();
+        lent.push(values)?;
     }
     Ok(lent)
 }

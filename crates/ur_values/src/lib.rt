@@ -5,6 +5,7 @@
 mod atom;
 mod compare;
 mod copy;
+mod extends;
 mod keys;
 mod law;
 mod nesting;
@@ -21,8 +22,8 @@ mod value;
 pub use atom::{Atom, atom_laws};
 pub use compare::compare_values;
 pub use copy::copy_values;
-pub use keys::{repeated_key, repeated_key_of};
-pub use law::fitting_is_atomic;
+pub use keys::{repeated_key, repeated_key_of, taken_key};
+pub use law::{fitting_is_atomic, schemas_extend_themselves};
 pub use same::same_values;
 pub use schema::{ColumnKind, Numbered, Schema, TableShape};
 pub use size::GREATEST_SIZE;

@@ -9,6 +9,8 @@ mod compiled;
 #[cfg(test)]
 mod files;
 #[cfg(test)]
+mod grown;
+#[cfg(test)]
 mod loaded;
 #[cfg(test)]
 mod restarted;

@@ -15,7 +15,7 @@ use ur_keeper_kept::Kept;
 use ur_sqlkeeper::SqlBodies;
 
 /// Bodies in a database in files in memory.
-type Stored = SqlBodies<FileStore<MemoryFile>>;
+pub(crate) type Stored = SqlBodies<FileStore<MemoryFile>>;
 
 /// A project of another table.
 fn other(alloc: Global) -> Result<MemoryShelf, Memory> {
@@ -41,14 +41,14 @@ fn list() -> &'static str {
     "GET /Main/list/ann HTTP/1.1\r\nHost: a\r\n\r\n"
 }
 
-/// The row's values in order of the columns' names: the text `a&b`, the int 1 and the text `ann`, each text behind its length.
-fn note() -> &'static [u8] {
-    b"\x00\x00\x00\x03a&b\x00\x00\x00\x00\x00\x00\x00\x01\x00\x00\x00\x03ann"
+/// The values of a row in order of the columns' names, each behind its name: the text `a&b`, the int 1 and the text `ann`.
+pub(crate) fn second_note() -> &'static [u8] {
+    b"\x00\x00\x00\x04Body\x00\x00\x00\x03a&b\x00\x00\x00\x02Id\x00\x00\x00\x00\x00\x00\x00\x01\x00\x00\x00\x05Owner\x00\x00\x00\x03ann"
 }
 
 /// The same without its last byte.
-fn short_note() -> &'static [u8] {
-    b"\x00\x00\x00\x03a&b\x00\x00\x00\x00\x00\x00\x00\x01\x00\x00\x00\x03an"
+pub(crate) fn short_note() -> &'static [u8] {
+    b"\x00\x00\x00\x04Body\x00\x00\x00\x03a&b\x00\x00\x00\x02Id\x00\x00\x00\x00\x00\x00\x00\x01\x00\x00\x00\x05Owner\x00\x00\x00\x03an"
 }
 
 /// Whether the first table's first row has this body.
@@ -94,7 +94,7 @@ fn listed(alloc: Global, bodies: Stored) -> Result<(Ran, Stored), Memory> {
 }
 
 /// Whether this is among the bytes.
-fn shows(given: &Bytes, part: &str) -> bool {
+pub(crate) fn shows(given: &Bytes, part: &str) -> bool {
     str::from_utf8(given.as_slice())
         .unwrap_or("")
         .contains(part)
@@ -103,7 +103,7 @@ fn shows(given: &Bytes, part: &str) -> bool {
 #[test]
 fn a_row_is_its_body(rt: HostRuntime) -> Result<(), Fail> {
     let mut bodies = noted(rt)?;
-    assert!(rt; holds(&mut bodies, note()));
+    assert!(rt; holds(&mut bodies, second_note()));
     Ok(())
 }
 
@@ -125,7 +125,7 @@ fn a_body_one_byte_short_is_a_fault(rt: HostRuntime) -> Result<(), Fail> {
     let (came, mut bodies) = listed(alloc, bodies)?;
     assert!(rt; came.is(7, 0));
     assert!(rt; shows(&came.printed, "keeper fault\n"));
-    assert!(rt; put_note(alloc, &mut bodies, note())?);
+    assert!(rt; put_note(alloc, &mut bodies, second_note())?);
     let (came, _bodies) = listed(alloc, bodies)?;
     assert!(rt; came.is(0, 1));
     assert!(rt; shows(&came.given, "<p>1 a&amp;b</p>"));

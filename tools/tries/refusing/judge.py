@@ -14,7 +14,8 @@ Rows = tuple[str, ...]
 REPORTS = {0: b"", 4: b"shelf fault\n", 6: b"wire fault\n", 7: b"keeper fault\n", 8: b"memory\n"}
 # The clauses of `run` by which a status comes that is none of want of memory.
 CLAUSES = {4: "shelf_fault", 5: "sink_fault", 6: "wire_fault", 7: "keeper_fault"}
-SCHEMA = b"table M.item Body:string Id:int primary Id\nsequence M.ids\n"
+SCHEMA = tables.LAYOUT + b"table M.item Body:string Id:int primary Id\nsequence M.ids\n"
+ITEM = (("Body", "string"), ("Id", "int"))
 
 
 @dataclass(frozen=True)
@@ -228,11 +229,11 @@ def rows_of(bodies: dict[tuple[int, int], bytes]) -> Rows | None:
     ids = bodies.pop((tables.SEQUENCES, 0), b"")
     rows: list[str] = []
     while (body := bodies.pop((tables.FIRST_TABLE, len(rows)), None)) is not None:
-        text = tables.values_of(body, ("string", "int"))[0].decode()
-        if body != tables.body_of((text, len(rows) + 1)):
+        text = tables.values_of(body, ITEM)[0].decode()
+        if body != tables.body_of(ITEM, (text, len(rows) + 1)):
             raise ValueError(f"row {len(rows)} is {body!r}")
         rows.append(text)
-    if ids != tables.body_of((len(rows) + 1,)):
+    if ids != tables.value_as_bytes(len(rows) + 1):
         raise ValueError(f"the next number is {ids!r} after {len(rows)} rows")
     if bodies:
         raise ValueError(f"there are also {sorted(bodies)}")

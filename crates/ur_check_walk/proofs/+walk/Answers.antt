@@ -2,14 +2,13 @@ use Rattle.std.proofs.Common.{arith, ap, ap₂, sym, subst, ◌∙◌, Some, ref
 use Rattle.std.specs.Option.{option_copied}
 use Rattle.ur_syntax.specs.declared.exp.ExpForm.TheVariants as e
 use Rattle.ur_rows.specs.declared.normal.NormalType.TheVariants as ty
-use Rattle.ur_typed.specs.Parts.{negated, denied, shown, present, returned, projected, cut_from, of_built, of_head}
+use Rattle.ur_typed.specs.Parts.{denied, shown, present, returned, of_built, of_head}
 use Rattle.ur_typed.specs.Walking.{typed}
+use Rattle.ur_typed_rules.specs.Scopes.{wants}
 use Rattle.ur_check_scopes.specs.Views.{mode_of, head_in}
 use Rattle.ur_check_scopes.proofs.Exits.{ok-along, refused-along, refused-exit}
-use Rattle.ur_check_rules.specs.Views.{sites_in, out_in, operation_in, args_with}
-use Rattle.ur_check_walk.specs.Sided.{left_fault}
-use Rattle.ur_check_walk.proofs.Forms.{negative-made, not-made, show-made, some-made, return-made, project-made, remove-made}
-use Rattle.ur_check_walk.proofs.Operators.{sides-give, sides-meet, left-tells, right-tells, may-not-tells}
+use Rattle.ur_check_rules.specs.Views.{sites_in, out_in, args_with}
+use Rattle.ur_check_walk.proofs.Forms.{not-made, show-made, some-made, return-made}
 use Rattle.std.proofs.lemmas.List.{nil_from_length}
 use Rattle.ur_check_walk.specs.Records.{bad_name}
 use Rattle.ur_check_walk.proofs.Records.{all-first, all-past, all-taken, field-tells, record-gives, record-tells, takes, value-tells}
@@ -18,17 +17,19 @@ use Rattle.ur_tree.specs.Make as make
 use Rattle.ur_tree.specs.declared.exp.Exp.TheVariants as exp
 use Rattle.ur_check_walk.specs.Applying.{forms_in, GivesArgs, TellsArgs, CallGives, CallTells, in_call}
 use Rattle.ur_check_walk.proofs.Applying as applying
+use Rattle.ur_check_walk.specs.Leading.{ComesIn}
+use Rattle.ur_check_walk.proofs.Leading as leading
 use Rattle.ur_check_walk.proofs.Steps.{lower, part, rule, settled, settles, stands-there, somewhere-there, tells-there, deeper-below, gives-as, tells-as, gives-mode, tells-mode, arm, arm-any, arm-tells, arm-tells-any, fails-untyped, fails-typed, fails-within}
 use Rattle.ur_check_walk.proofs.+walk.Goals as goal
 use Rattle.ur_check_walk.proofs.Cookies.{cookie-gives, cookie-tells, no-cookie-tells}
 use Rattle.ur_check_walk.proofs.Forms.{set-cookie-made}
-use Rattle.ur_check_walk.proofs.Choosing.{if-made, choice-made, in-condition, in-yes, in-no, in-choices, bind-made, in-first, in-first-alone, first-not-run, first-not-run-alone, in-second, in-second-alone, last-not-run, last-not-run-alone, somewhere-bound, seq-made}
+use Rattle.ur_check_walk.proofs.Choosing.{bind-made, in-first, in-first-alone, first-not-run, first-not-run-alone, in-second, in-second-alone, last-not-run, last-not-run-alone, somewhere-bound, seq-made}
 use Rattle.ur_check_walk.proofs.Branching.{Walked, branch-made, pattern-faulty, body-faulty, walked-start, walked-next, walked-broken, walked-end, case-made, in-scrutinee, in-branches, not-covered, somewhere-branch}
 use Rattle.ur_check_walk.proofs.Vals.{val-made, type-faulty, value-faulty, behind-faulty, further-made, further-faulty, let-faulty, body-made, let-body-faulty, let-made, in-vals, somewhere-val}
 use Rattle.ur_check_walk.proofs.Lambdas.{lambda-made, form-broken, name-broken, param-broken, in-body, curried-told, somewhere-lambda}
 use Rattle.ur_check_walk.proofs.Quoted as quoted
 use Rattle.ur_check_walk.proofs.Stated as stated
-use Rattle.ur_check_walk.proofs.Ranks.{falls, falls-whole, falls-deeper}
+use Rattle.ur_check_walk.proofs.Ranks.{falls, falls-deeper}
 use Rattle.ur_rows.specs.Normal.{as_function}
 use Rattle.ur_rows.specs.Types.{at_row}
 use Rattle.ur_rows.specs.Nodes.{type_nodes, most_nodes}
@@ -41,42 +42,10 @@ use Rattle.ur_check_walk.proofs.Elements.{tag-given, tag-tells, tag-bad, node-ar
 use Rattle.ur_check_walk.proofs.Literals.{sort-tells, frame-tells, parts-tell, fields-tell, literal-given}
 use Rattle.ur_syntax.specs.declared.xml.XmlForm.TheVariants as xml_form
 use Rattle.ur_xmltype.specs.Tags as node
-use Rattle.ur_check_walk.proofs.Aiming.{target-gives, aim-tells, more-tells, args-tell, target-further-gives, target-further-tells}
+use Rattle.ur_check_walk.proofs.Aiming.{target-gives, aim-tells, more-tells, args-tell, whole-aims, whole-misses}
 use Rattle.ur_check_walk.proofs.Linking.{value-gives, value-refused, text-gives, value-as, value-told-as, link-gives, link-target-tells, link-parts-tell, input-gives, stray-tells, input-value-tells, submit-gives, submit-target-tells, submit-value-tells}
 
 -- ---- arms
-
-pub walk::walk-returns-in-Binary-clause-typed : goal.walk::walk-returns-in-Binary-clause-typed
-walk::walk-returns-in-Binary-clause-typed t c =
-    arm c.args.around.now c.args.sites.now c.sides.new.sites c.args.e.now.form (e.Binary c.in-Binary.op c.get.result.now c.get-in-Binary.result.now) (mode_of (option_copied c.args.wanted)) c.sides.result (c.in-Binary.is ∙ ap₂ (λ x y. e.Binary c.in-Binary.op x y) (sym c.get.ensures) (sym c.get-in-Binary.ensures)) c.sides.ensures.typed
-
-pub walk::walk-returns-in-Binary-clause-refused : goal.walk::walk-returns-in-Binary-clause-refused
-walk::walk-returns-in-Binary-clause-refused t c =
-    arm-tells c.args.around.now c.args.sites.now c.args.e.now.form (e.Binary c.in-Binary.op c.get.result.now c.get-in-Binary.result.now) (mode_of (option_copied c.args.wanted)) c.sides.result (c.in-Binary.is ∙ ap₂ (λ x y. e.Binary c.in-Binary.op x y) (sym c.get.ensures) (sym c.get-in-Binary.ensures)) c.sides.ensures.refused
-
-pub walk::walk-returns-in-Project-clause-typed : goal.walk::walk-returns-in-Project-clause-typed
-walk::walk-returns-in-Project-clause-typed t c =
-    arm-any c.args.around.now c.args.sites.now c.project.new.sites c.args.e.now.form (e.Project c.get-in-Project.result.now c.in-Project.name) (mode_of (option_copied c.args.wanted)) c.project.result (c.in-Project.is ∙ ap (λ x. e.Project x c.in-Project.name) (sym c.get-in-Project.ensures)) c.project.ensures.typed
-
-pub walk::walk-returns-in-Project-clause-refused : goal.walk::walk-returns-in-Project-clause-refused
-walk::walk-returns-in-Project-clause-refused t c =
-    arm-tells-any c.args.around.now c.args.sites.now c.args.e.now.form (e.Project c.get-in-Project.result.now c.in-Project.name) (mode_of (option_copied c.args.wanted)) c.project.result (c.in-Project.is ∙ ap (λ x. e.Project x c.in-Project.name) (sym c.get-in-Project.ensures)) c.project.ensures.refused
-
-pub walk::walk-returns-in-Remove-clause-typed : goal.walk::walk-returns-in-Remove-clause-typed
-walk::walk-returns-in-Remove-clause-typed t c =
-    arm-any c.args.around.now c.args.sites.now c.cut.new.sites c.args.e.now.form (e.Remove c.get-in-Remove.result.now c.in-Remove.removed) (mode_of (option_copied c.args.wanted)) c.cut.result (c.in-Remove.is ∙ ap (λ x. e.Remove x c.in-Remove.removed) (sym c.get-in-Remove.ensures)) c.cut.ensures.typed
-
-pub walk::walk-returns-in-Remove-clause-refused : goal.walk::walk-returns-in-Remove-clause-refused
-walk::walk-returns-in-Remove-clause-refused t c =
-    arm-tells-any c.args.around.now c.args.sites.now c.args.e.now.form (e.Remove c.get-in-Remove.result.now c.in-Remove.removed) (mode_of (option_copied c.args.wanted)) c.cut.result (c.in-Remove.is ∙ ap (λ x. e.Remove x c.in-Remove.removed) (sym c.get-in-Remove.ensures)) c.cut.ensures.refused
-
-pub walk::walk-returns-in-Negative-clause-typed : goal.walk::walk-returns-in-Negative-clause-typed
-walk::walk-returns-in-Negative-clause-typed t c =
-    arm-any c.args.around.now c.args.sites.now c.negative.new.sites c.args.e.now.form (e.Negative c.get-in-Negative.result.now) (mode_of (option_copied c.args.wanted)) c.negative.result (c.in-Negative.is ∙ ap e.Negative (sym c.get-in-Negative.ensures)) c.negative.ensures.typed
-
-pub walk::walk-returns-in-Negative-clause-refused : goal.walk::walk-returns-in-Negative-clause-refused
-walk::walk-returns-in-Negative-clause-refused t c =
-    arm-tells-any c.args.around.now c.args.sites.now c.args.e.now.form (e.Negative c.get-in-Negative.result.now) (mode_of (option_copied c.args.wanted)) c.negative.result (c.in-Negative.is ∙ ap e.Negative (sym c.get-in-Negative.ensures)) c.negative.ensures.refused
 
 pub walk::walk-returns-in-Not-clause-typed : goal.walk::walk-returns-in-Not-clause-typed
 walk::walk-returns-in-Not-clause-typed t c =
@@ -120,14 +89,6 @@ walk::walk_statement-returns-in-Error-clause-refused t c =
 
 -- ---- forms of one part
 
-pub walk::negative-returns-clause-typed : goal.walk::negative-returns-clause-typed
-walk::negative-returns-clause-typed t c =
-    λ m. gives-as c.args.around.now c.args.sites.now (e.Negative c.args.a.now) _ m c.in_ok-made.made c.typed.new.sites (negative-made c.args.a.now) (λ w s st. c.in_ok-made.ensures s (sites_in c.args.sites.now) (sites_in c.typed.new.sites) ty.Int (typed w c.args.a.now.form) (c.in_ok-out.ensures.typed w s st))
-
-pub walk::negative-returns-in_err-out-clause-refused : goal.walk::negative-returns-in_err-out-clause-refused
-walk::negative-returns-in_err-out-clause-refused t c =
-    refused-exit c.from_residual.result c.in_err-out.field-0.0 c.from_residual.ensures.1 (λ r h m. tells-as c.args.around.now c.args.sites.now (e.Negative c.args.a.now) _ m r (negative-made c.args.a.now) (λ w s st. part negated (h w s st))) c.in_err-out.ensures.refused
-
 pub walk::denied-returns-clause-typed : goal.walk::denied-returns-clause-typed
 walk::denied-returns-clause-typed t c =
     λ m. gives-as c.args.around.now c.args.sites.now (e.Not c.args.a.now) _ m c.in_ok-made.made c.typed.new.sites (not-made c.args.a.now) (λ w s st. c.in_ok-made.ensures s (sites_in c.args.sites.now) (sites_in c.typed.new.sites) ty.Bool (typed w c.args.a.now.form) (c.in_ok-out.ensures.typed w s st))
@@ -160,71 +121,71 @@ pub walk::returned-returns-in_err-out-clause-refused : goal.walk::returned-retur
 walk::returned-returns-in_err-out-clause-refused t c =
     refused-exit c.from_residual.result c.in_err-out.field-0.0 c.from_residual.ensures.1 (λ r h. tells-as c.args.around.now c.args.sites.now (e.Return c.args.a.now) _ (mode_of (option_copied c.args.wanted)) r (return-made c.args.a.now) (λ w s st. part returned (tells-mode c.args.around.now c.args.sites.now c.args.a.now.form _ _ r c.of_transaction-inside.ensures h w s st))) c.in_err-out.ensures.refused
 
-pub fields::project-returns-clause-typed : goal.fields::project-returns-clause-typed
-fields::project-returns-clause-typed t c =
-    λ m. gives-as c.args.around.now c.args.sites.now (e.Project c.args.a.now c.args.name.now) _ m c.in_ok-made.made c.typed.new.sites (project-made c.args.a.now c.args.name.now) (λ w s st. c.in_ok-made.ensures.projected s (sites_in c.args.sites.now) (sites_in c.typed.new.sites) c.args.name.now (typed w c.args.a.now.form) (c.in_ok-label.ensures s.names.cons st.cons) (c.in_ok-out.ensures.typed w s st))
-
-pub fields::project-returns-in_err-out-clause-refused : goal.fields::project-returns-in_err-out-clause-refused
-fields::project-returns-in_err-out-clause-refused t c =
-    refused-exit c.from_residual.result c.in_err-out.field-0.0 c.from_residual.ensures.1 (λ r h m. tells-as c.args.around.now c.args.sites.now (e.Project c.args.a.now c.args.name.now) _ m r (project-made c.args.a.now c.args.name.now) (λ w s st. part projected (h w s st))) c.in_err-out.ensures.refused
-
-pub fields::cut-returns-clause-typed : goal.fields::cut-returns-clause-typed
-fields::cut-returns-clause-typed t c =
-    λ m. gives-as c.args.around.now c.args.sites.now (e.Remove c.args.a.now c.args.removed.now) _ m c.in_ok-made.made c.typed.new.sites (remove-made c.args.a.now c.args.removed.now) (λ w s st. c.in_ok-made.ensures.cut s (sites_in c.args.sites.now) (sites_in c.typed.new.sites) c.args.removed.now.name (typed w c.args.a.now.form) (c.in_ok-label.ensures s.names.cons st.cons) (c.in_ok-out.ensures.typed w s st))
-
-pub fields::cut-returns-in_err-out-clause-refused : goal.fields::cut-returns-in_err-out-clause-refused
-fields::cut-returns-in_err-out-clause-refused t c =
-    refused-exit c.from_residual.result c.in_err-out.field-0.0 c.from_residual.ensures.1 (λ r h m. tells-as c.args.around.now c.args.sites.now (e.Remove c.args.a.now c.args.removed.now) _ m r (remove-made c.args.a.now c.args.removed.now) (λ w s st. part cut_from (h w s st))) c.in_err-out.ensures.refused
-
 pub walk::shown-returns-in_err-made-clause-refused : goal.walk::shown-returns-in_err-made-clause-refused
 walk::shown-returns-in_err-made-clause-refused t c =
     refused-exit c.from_residual-in_err-made.result c.in_err-made.field-0.0 c.from_residual-in_err-made.ensures.1 (λ r h m. tells-as c.args.around.now c.args.sites.now (e.Show c.args.a.now) _ m r (show-made c.args.a.now) (λ w s st. rule (h w s (sites_in c.args.sites.now) (sites_in c.typed.new.sites) m c.args.a.now.span c.args.a.now.form (c.in_ok-out.ensures.typed w s st)))) c.in_err-made.ensures.refused
 
-pub fields::project-returns-in_err-made-clause-refused : goal.fields::project-returns-in_err-made-clause-refused
-fields::project-returns-in_err-made-clause-refused t c =
-    refused-exit c.from_residual-in_err-made.result c.in_err-made.field-0.0 c.from_residual-in_err-made.ensures.1 (λ r h m. tells-as c.args.around.now c.args.sites.now (e.Project c.args.a.now c.args.name.now) _ m r (project-made c.args.a.now c.args.name.now) (λ w s st. rule (h w s (sites_in c.args.sites.now) (sites_in c.typed.new.sites) m c.args.a.now.span c.args.a.now.form c.args.name.now (c.in_ok-label.ensures s.names.cons st.cons) (c.in_ok-out.ensures.typed w s st)))) c.in_err-made.ensures.refused
+-- ---- chains
 
-pub fields::cut-returns-in_err-made-clause-refused : goal.fields::cut-returns-in_err-made-clause-refused
-fields::cut-returns-in_err-made-clause-refused t c =
-    refused-exit c.from_residual-in_err-made.result c.in_err-made.field-0.0 c.from_residual-in_err-made.ensures.1 (λ r h m. tells-as c.args.around.now c.args.sites.now (e.Remove c.args.a.now c.args.removed.now) _ m r (remove-made c.args.a.now c.args.removed.now) (λ w s st. rule (h w s (sites_in c.args.sites.now) (sites_in c.typed.new.sites) m c.args.a.now.span c.args.a.now.form c.args.removed.now (c.in_ok-label.ensures s.names.cons st.cons) (c.in_ok-out.ensures.typed w s st)))) c.in_err-made.ensures.refused
+pub walk::typed-returns-then-is_chain-clause-typed : goal.walk::typed-returns-then-is_chain-clause-typed
+walk::typed-returns-then-is_chain-clause-typed t c = c.chain.ensures.typed
 
--- ---- operators
+pub walk::typed-returns-then-is_chain-clause-refused : goal.walk::typed-returns-then-is_chain-clause-refused
+walk::typed-returns-then-is_chain-clause-refused t c = c.chain.ensures.refused
 
-pub walk::left_side-returns-then-left_may-clause-typed : goal.walk::left_side-returns-then-left_may-clause-typed
-walk::left_side-returns-then-left_may-clause-typed t c =
-    gives-mode c.args.around.now c.args.sites.now c.args.a.now.form _ _ c.in_ok-out.out c.typed.new.sites c.left_mode-inside.ensures c.in_ok-out.ensures.typed
+pub walk::typed-returns-else-is_chain-clause-typed : goal.walk::typed-returns-else-is_chain-clause-typed
+walk::typed-returns-else-is_chain-clause-typed t c = c.operand.ensures.typed
 
-pub walk::left_side-returns-in_err-out-clause-refused : goal.walk::left_side-returns-in_err-out-clause-refused
-walk::left_side-returns-in_err-out-clause-refused t c =
-    refused-exit c.from_residual.result c.in_err-out.field-0.0 c.from_residual.ensures.1 (λ r h w s st. left_fault (tells-mode c.args.around.now c.args.sites.now c.args.a.now.form _ _ r c.left_mode-inside.ensures h w s st)) c.in_err-out.ensures.refused
+pub walk::typed-returns-else-is_chain-clause-refused : goal.walk::typed-returns-else-is_chain-clause-refused
+walk::typed-returns-else-is_chain-clause-refused t c = c.operand.ensures.refused
 
-pub walk::left_side-returns-clause-refused : goal.walk::left_side-returns-clause-refused
-walk::left_side-returns-clause-refused t c =
-    may-not-tells c.args.around.now c.args.sites.now c.typed.new.sites (operation_in c.args.asked.now) c.args.a.now.form (mode_of (option_copied c.args.wanted)) c.in_ok-out.out c.not_compared.result (sym c.left_may.ensures ∙ c.if-left_may.false) (gives-mode c.args.around.now c.args.sites.now c.args.a.now.form _ _ c.in_ok-out.out c.typed.new.sites c.left_mode-inside.ensures c.in_ok-out.ensures.typed) c.not_compared.ensures
+pub chain::chosen-returns-clause-typed : goal.chain::chosen-returns-clause-typed
+chain::chosen-returns-clause-typed t c =
+    leading.chosen-onward c.args.around.now c.in_ok-inner.inner c.args.begun.now c.kept.new.begun c.args.sites.now c.typed.new.sites c.typed-2.new.sites c.args.asked (record { e = c.args.choice.no; wanted = Some c.in_ok-of.of }) c.in_ok-kept.ensures.0 c.args.choice c.in_ok-test.test c.in_ok-yes.yes c.in_ok-inner.ensures.0 c.in_ok-inner.ensures.1 c.in_ok-kept.ensures.1 refl (ap wants c.in_ok-of.ensures) c.in_ok-test.ensures.typed (gives-mode c.in_ok-inner.inner c.typed.new.sites c.args.choice.yes.now.form _ _ c.in_ok-yes.yes c.typed-2.new.sites (ap mode_of c.as_ref.ensures.value) c.in_ok-yes.ensures.typed)
 
-pub walk::right_side-returns-clause-typed : goal.walk::right_side-returns-clause-typed
-walk::right_side-returns-clause-typed t c =
-    gives-mode c.args.around.now c.args.sites.now c.args.b.now.form _ _ c.in_ok-out.out c.typed.new.sites (c.right_mode-inside.ensures c.in_ok-list.ensures) c.in_ok-out.ensures.typed
+pub chain::chosen-returns-in_err-test-clause-refused : goal.chain::chosen-returns-in_err-test-clause-refused
+chain::chosen-returns-in_err-test-clause-refused t c =
+    refused-exit c.from_residual-in_err-test.result c.in_err-test.field-0.0 c.from_residual-in_err-test.ensures.1 (λ r h. leading.test-tells c.args.around.now c.in_ok-inner.inner c.args.sites.now c.args.asked c.args.choice r c.in_ok-inner.ensures.0 c.in_ok-inner.ensures.1 h) c.in_err-test.ensures.refused
 
-pub walk::right_side-returns-in_err-out-clause-refused : goal.walk::right_side-returns-in_err-out-clause-refused
-walk::right_side-returns-in_err-out-clause-refused t c =
-    refused-exit c.from_residual-in_err-out.result c.in_err-out.field-0.0 c.from_residual-in_err-out.ensures.1 (λ r h. tells-mode c.args.around.now c.args.sites.now c.args.b.now.form _ _ r (c.right_mode-inside.ensures c.in_ok-list.ensures) h) c.in_err-out.ensures.refused
+pub chain::chosen-returns-in_err-yes-clause-refused : goal.chain::chosen-returns-in_err-yes-clause-refused
+chain::chosen-returns-in_err-yes-clause-refused t c =
+    refused-exit c.from_residual-in_err-yes.result c.in_err-yes.field-0.0 c.from_residual-in_err-yes.ensures.1 (λ r h. leading.yes-tells c.args.around.now c.in_ok-inner.inner c.args.sites.now c.typed.new.sites c.args.asked c.args.choice c.in_ok-test.test r c.in_ok-inner.ensures.0 c.in_ok-inner.ensures.1 c.in_ok-test.ensures.typed (tells-mode c.in_ok-inner.inner c.typed.new.sites c.args.choice.yes.now.form _ _ r (ap mode_of c.as_ref.ensures.value) h)) c.in_err-yes.ensures.refused
 
-pub walk::sides-returns-clause-typed : goal.walk::sides-returns-clause-typed
-walk::sides-returns-clause-typed t c =
-    ok-along c.sides_out.result (λ o j. sides-give c.args.around.now c.args.sites.now c.left_side.new.sites c.right_side.new.sites c.args.op c.operator_of-made.result (operation_in c.operation_of-asked.result) c.args.a.now c.args.b.now (mode_of (option_copied c.args.wanted)) c.in_ok-left.left c.in_ok-right.right o c.operator_of-made.ensures c.operation_of-asked.ensures c.in_ok-left.ensures.typed c.in_ok-left.ensures.may c.in_ok-right.ensures.typed j) c.sides_out.ensures.joined
+pub chain::turn-returns-in-Some-clause-typed : goal.chain::turn-returns-in-Some-clause-typed
+chain::turn-returns-in-Some-clause-typed t c = c.in_ok-last-in-Some.ensures.typed c.in-Some.ensures
 
-pub walk::sides-returns-clause-refused : goal.walk::sides-returns-clause-refused
-walk::sides-returns-clause-refused t c =
-    refused-along c.sides_out.result (λ r j. sides-meet c.args.around.now c.args.sites.now c.left_side.new.sites c.right_side.new.sites c.args.op c.operator_of-made.result (operation_in c.operation_of-asked.result) c.args.a.now c.args.b.now (mode_of (option_copied c.args.wanted)) c.in_ok-left.left c.in_ok-right.right r c.operator_of-made.ensures c.operation_of-asked.ensures c.in_ok-left.ensures.typed c.in_ok-right.ensures.typed j) c.sides_out.ensures.refused
+pub chain::turn-returns-in_err-last-in-Some-clause-refused : goal.chain::turn-returns-in_err-last-in-Some-clause-refused
+chain::turn-returns-in_err-last-in-Some-clause-refused t c =
+    refused-exit c.from_residual.result c.in_err-last-in-Some.field-0.0 c.from_residual.ensures.1 (λ r h. leading.turn-tells c.args.around.now c.args.begun.now c.args.sites.now c.args.next r (h c.in-Some.ensures)) c.in_err-last-in-Some.ensures.refused
 
-pub walk::sides-returns-in_err-left-clause-refused : goal.walk::sides-returns-in_err-left-clause-refused
-walk::sides-returns-in_err-left-clause-refused t c =
-    refused-exit c.from_residual.result c.in_err-left.field-0.0 c.from_residual.ensures.1 (λ r h. left-tells c.args.around.now c.args.sites.now c.args.op c.operator_of-made.result (operation_in c.operation_of-asked.result) c.args.a.now c.args.b.now (mode_of (option_copied c.args.wanted)) r c.operator_of-made.ensures c.operation_of-asked.ensures h) c.in_err-left.ensures.refused
+pub chain::turn-returns-clause-typed : goal.chain::turn-returns-clause-typed
+chain::turn-returns-clause-typed t c =
+    leading.turn-closes c.args.around.now c.args.begun.now c.all_closed.new.begun c.args.sites.now c.operand.new.sites c.args.next _ c.in_ok-out-in-None.out c.in_ok-behind-in-None.behind (ap mode_of c.as_ref.ensures.value) c.in_ok-out-in-None.ensures.typed c.in_ok-behind-in-None.ensures.comes
 
-pub walk::sides-returns-in_err-right-clause-refused : goal.walk::sides-returns-in_err-right-clause-refused
-walk::sides-returns-in_err-right-clause-refused t c =
-    refused-exit c.from_residual-in_err-right.result c.in_err-right.field-0.0 c.from_residual-in_err-right.ensures.1 (λ r h. right-tells c.args.around.now c.args.sites.now c.left_side.new.sites c.args.op c.operator_of-made.result (operation_in c.operation_of-asked.result) c.args.a.now c.args.b.now (mode_of (option_copied c.args.wanted)) c.in_ok-left.left r c.operator_of-made.ensures c.operation_of-asked.ensures c.in_ok-left.ensures.typed h) c.in_err-right.ensures.refused
+pub chain::turn-returns-in_err-out-in-None-clause-refused : goal.chain::turn-returns-in_err-out-in-None-clause-refused
+chain::turn-returns-in_err-out-in-None-clause-refused t c =
+    refused-exit c.from_residual-in_err-out-in-None.result c.in_err-out-in-None.field-0.0 c.from_residual-in_err-out-in-None.ensures.1 (λ r h. leading.turn-tells c.args.around.now c.args.begun.now c.args.sites.now c.args.next r (tells-mode c.args.around.now c.args.sites.now c.args.next.e.now.form _ _ r (ap mode_of c.as_ref.ensures.value) h)) c.in_err-out-in-None.ensures.refused
+
+pub chain::turn-returns-in_err-behind-in-None-clause-refused : goal.chain::turn-returns-in_err-behind-in-None-clause-refused
+chain::turn-returns-in_err-behind-in-None-clause-refused t c =
+    refused-exit c.from_residual-in_err-behind-in-None.result c.in_err-behind-in-None.field-0.0 c.from_residual-in_err-behind-in-None.ensures.1 (λ r h. leading.turn-refused c.args.around.now c.args.begun.now c.args.sites.now c.operand.new.sites c.args.next _ c.in_ok-out-in-None.out r (ap mode_of c.as_ref.ensures.value) c.in_ok-out-in-None.ensures.typed h) c.in_err-behind-in-None.ensures.refused
+
+pub chain::chain-loop-turn-init : goal.chain::chain-loop-turn-init
+chain::chain-loop-turn-init t c =
+    leading.chain-begun c.args.around.now c.descended.new.begun c.new-begun.result c.args.sites.now c.args.e.now.form (mode_of (option_copied c.args.wanted)) c.in_ok-first.first c.in_ok-next.next c.new-begun.ensures (ap (λ z. z.now.form) c.in_ok-first.ensures.e) c.in_ok-first.ensures.wanted c.in_ok-next.ensures
+
+pub chain::chain-loop-turn-preserved : goal.chain::chain-loop-turn-preserved
+chain::chain-loop-turn-preserved t c =
+    c.in_ok-next-in-Part.ensures c.args.around.now c.args.sites.now c.turn.new.sites c.args.e.now.form (mode_of (option_copied c.args.wanted))
+    (subst (ComesIn c.args.around.now c.turn.new.begun c.args.sites.now c.args.e.now.form (mode_of (option_copied c.args.wanted)) c.turn.new.sites) c.in-Part.is (c.in_ok-out.ensures.typed c.args.sites.now c.args.e.now.form (mode_of (option_copied c.args.wanted)) c.loop-turn.invariant))
+
+pub chain::chain-returns-in-Whole-clause-typed : goal.chain::chain-returns-in-Whole-clause-typed
+chain::chain-returns-in-Whole-clause-typed t c =
+    subst (ComesIn c.args.around.now c.turn.new.begun c.args.sites.now c.args.e.now.form (mode_of (option_copied c.args.wanted)) c.turn.new.sites) c.in-Whole.is (c.in_ok-out.ensures.typed c.args.sites.now c.args.e.now.form (mode_of (option_copied c.args.wanted)) c.loop-turn.invariant)
+
+pub chain::chain-returns-in_err-out-clause-refused : goal.chain::chain-returns-in_err-out-clause-refused
+chain::chain-returns-in_err-out-clause-refused t c =
+    refused-exit c.from_residual-in_err-out.result c.in_err-out.field-0.0 c.from_residual-in_err-out.ensures.1 (λ r h. h c.args.sites.now c.args.e.now.form (mode_of (option_copied c.args.wanted)) c.loop-turn.invariant) c.in_err-out.ensures.refused
 
 -- ---- what fails
 
@@ -242,20 +203,20 @@ walk::failed-returns-in_err-out-in-Some-clause-refused t c =
 
 -- ---- what is accepted
 
-pub walk::typed-returns-clause-typed : goal.walk::typed-returns-clause-typed
-walk::typed-returns-clause-typed t c =
+pub walk::operand-returns-clause-typed : goal.walk::operand-returns-clause-typed
+walk::operand-returns-clause-typed t c =
     ok-along c.settled.result (λ o h w s st. settles w c.args.e.now.form s (sites_in c.args.sites.now) (mode_of (option_copied c.args.wanted)) (out_in c.in_ok-out.out c.walk.new.sites) (out_in o c.walk.new.sites) (c.in_ok-out.ensures.typed w s (stands-there c.args.around.now c.in_ok-inner.inner w s c.in_ok-inner.ensures.0 c.in_ok-inner.ensures.1 st)) (h w s (sites_in c.walk.new.sites) st)) c.settled.ensures.settled
 
-pub walk::typed-returns-clause-refused : goal.walk::typed-returns-clause-refused
-walk::typed-returns-clause-refused t c =
+pub walk::operand-returns-clause-refused : goal.walk::operand-returns-clause-refused
+walk::operand-returns-clause-refused t c =
     refused-along c.settled.result (λ r h w s st. settled (c.in_ok-out.ensures.typed w s (stands-there c.args.around.now c.in_ok-inner.inner w s c.in_ok-inner.ensures.0 c.in_ok-inner.ensures.1 st)) (h w s (sites_in c.walk.new.sites) st)) c.settled.ensures.refused
 
-pub walk::typed-returns-in_err-out-clause-refused : goal.walk::typed-returns-in_err-out-clause-refused
-walk::typed-returns-in_err-out-clause-refused t c =
+pub walk::operand-returns-in_err-out-clause-refused : goal.walk::operand-returns-in_err-out-clause-refused
+walk::operand-returns-in_err-out-clause-refused t c =
     refused-exit c.from_residual-in_err-out.result c.in_err-out.field-0.0 c.from_residual-in_err-out.ensures.1 (λ r h. tells-there c.args.around.now c.in_ok-inner.inner c.args.sites.now c.args.e.now.form (mode_of (option_copied c.args.wanted)) r c.in_ok-inner.ensures.0 c.in_ok-inner.ensures.1 h) c.in_err-out.ensures.refused
 
-pub walk::typed-walk-requires : goal.walk::typed-walk-requires
-walk::typed-walk-requires t c =
+pub walk::operand-walk-requires : goal.walk::operand-walk-requires
+walk::operand-walk-requires t c =
     (deeper-below c.args.around.now.levels c.in_ok-inner.inner.levels c.levels_of.result t c.in_ok-inner.ensures.2 c.levels_of.ensures c.decreases, somewhere-there c.args.around.now c.in_ok-inner.inner c.in_ok-inner.ensures.0 c.in_ok-inner.ensures.1 c.requires)
 
 -- ---- records
@@ -308,43 +269,23 @@ walk::walk_further-returns-in-Record-clause-refused t c =
 
 pub walk::walk-returns-in-App-clause-typed : goal.walk::walk-returns-in-App-clause-typed
 walk::walk-returns-in-App-clause-typed t c =
-    arm-any c.args.around.now c.args.sites.now c.application.new.sites c.args.e.now.form (e.App c.get-in-App.result.now c.get-in-App-2.result.now) (mode_of (option_copied c.args.wanted)) c.application.result (c.in-App.is ∙ ap₂ e.App (sym c.get-in-App.ensures) (sym c.get-in-App-2.ensures)) c.application.ensures.typed
+    arm-any c.args.around.now c.args.sites.now c.application.new.sites c.args.e.now.form (e.App c.get.result.now c.get-in-App.result.now) (mode_of (option_copied c.args.wanted)) c.application.result (c.in-App.is ∙ ap₂ e.App (sym c.get.ensures) (sym c.get-in-App.ensures)) c.application.ensures.typed
 
 pub walk::walk-returns-in-App-clause-refused : goal.walk::walk-returns-in-App-clause-refused
 walk::walk-returns-in-App-clause-refused t c =
-    arm-tells-any c.args.around.now c.args.sites.now c.args.e.now.form (e.App c.get-in-App.result.now c.get-in-App-2.result.now) (mode_of (option_copied c.args.wanted)) c.application.result (c.in-App.is ∙ ap₂ e.App (sym c.get-in-App.ensures) (sym c.get-in-App-2.ensures)) c.application.ensures.refused
+    arm-tells-any c.args.around.now c.args.sites.now c.args.e.now.form (e.App c.get.result.now c.get-in-App.result.now) (mode_of (option_copied c.args.wanted)) c.application.result (c.in-App.is ∙ ap₂ e.App (sym c.get.ensures) (sym c.get-in-App.ensures)) c.application.ensures.refused
 
 pub applied::application-returns-clause-typed : goal.applied::application-returns-clause-typed
 applied::application-returns-clause-typed t c =
-    ok-along c.spine.result (λ o h m w s st. applying.application-gives w s (sites_in c.args.sites.now) m c.args.f.now c.args.a.now (out_in o c.spine.new.sites) (h w s st)) c.spine.ensures.typed
+    ok-along c.at_head.result (λ o h. applying.whole-gives c.args.around.now c.args.sites.now c.at_head.new.sites c.args.f.now c.args.a.now o (applying.one-there c.push.new.self c.new-args.result c.args.a c.in_ok-push.ensures.ok c.new-args.ensures) c.in_ok-head.ensures.applied (h c.in_ok-head.ensures.head)) c.at_head.ensures.typed
 
 pub applied::application-returns-clause-refused : goal.applied::application-returns-clause-refused
 applied::application-returns-clause-refused t c =
-    refused-along c.spine.result (λ r h m w s st. applying.application-tells m c.args.f.now c.args.a.now (h w s st)) c.spine.ensures.refused
-
-pub applied::spine-returns-in_ok-inner-in-App-clause-typed : goal.applied::spine-returns-in_ok-inner-in-App-clause-typed
-applied::spine-returns-in_ok-inner-in-App-clause-typed t c =
-    ok-along c.spine.result (λ o h. applying.further-gives c.args.around.now c.in_ok-inner-in-App.inner c.args.sites.now c.spine.new.sites c.args.e.now.form c.get-in-App.result.now c.get.result.now (forms_in c.args.args.now) o c.in_ok-inner-in-App.ensures.0 c.in_ok-inner-in-App.ensures.1 (c.in-App.is ∙ ap₂ e.App (sym c.get-in-App.ensures) (sym c.get.ensures)) h) c.spine.ensures.typed
-
-pub applied::spine-returns-in_ok-inner-in-App-clause-refused : goal.applied::spine-returns-in_ok-inner-in-App-clause-refused
-applied::spine-returns-in_ok-inner-in-App-clause-refused t c =
-    refused-along c.spine.result (λ r h. applying.further-told c.args.around.now c.in_ok-inner-in-App.inner c.args.sites.now c.args.e.now.form c.get-in-App.result.now c.get.result.now (forms_in c.args.args.now) r c.in_ok-inner-in-App.ensures.0 c.in_ok-inner-in-App.ensures.1 (c.in-App.is ∙ ap₂ e.App (sym c.get-in-App.ensures) (sym c.get.ensures)) h) c.spine.ensures.refused
-
-pub applied::spine-spine-requires : goal.applied::spine-spine-requires
-applied::spine-spine-requires t c =
-    (applying.spine-below c.args.around.now.levels c.in_ok-inner-in-App.inner.levels t c.in_ok-inner-in-App.ensures.2 c.decreases, somewhere-there c.args.around.now c.in_ok-inner-in-App.inner c.in_ok-inner-in-App.ensures.0 c.in_ok-inner-in-App.ensures.1 c.requires)
-
-pub applied::spine-returns-in_default-clause-typed : goal.applied::spine-returns-in_default-clause-typed
-applied::spine-returns-in_default-clause-typed t c =
-    ok-along c.at_head.result (λ o h. h (applying.not-applied c.args.e.now.form c.in_default.not-App)) c.at_head.ensures.typed
-
-pub applied::spine-returns-in_default-clause-refused : goal.applied::spine-returns-in_default-clause-refused
-applied::spine-returns-in_default-clause-refused t c =
-    refused-along c.at_head.result (λ r h. h (applying.not-applied c.args.e.now.form c.in_default.not-App)) c.at_head.ensures.refused
+    refused-along c.at_head.result (λ r h. applying.whole-tells c.args.around.now c.args.sites.now c.args.f.now c.args.a.now r (applying.one-there c.push.new.self c.new-args.result c.args.a c.in_ok-push.ensures.ok c.new-args.ensures) c.in_ok-head.ensures.applied (h c.in_ok-head.ensures.head)) c.at_head.ensures.refused
 
 pub applied::at_head-returns-in-Function-clause-typed : goal.applied::at_head-returns-in-Function-clause-typed
 applied::at_head-returns-in-Function-clause-typed t c =
-    ok-along c.named.result (λ o h na. applying.spine-gives c.args.around.now c.args.sites.now c.named.new.sites c.args.e.now.form (forms_in c.args.args.now) o na (λ w s st. h w s c.args.e.now.form st (applying.callee-function w s c.args.e.now.form c.in_ok-callee.callee c.in-Function.function c.in-Function.is (c.in_ok-callee.ensures.callee w s st)))) c.named.ensures.typed
+    ok-along c.named.result (λ o h na. applying.spine-gives c.args.around.now c.args.sites.now c.named.new.sites c.args.e.now.form (forms_in c.args.args) o na (λ w s st. h w s c.args.e.now.form st (applying.callee-function w s c.args.e.now.form c.in_ok-callee.callee c.in-Function.function c.in-Function.is (c.in_ok-callee.ensures.callee w s st)))) c.named.ensures.typed
 
 pub applied::at_head-returns-in-Function-clause-refused : goal.applied::at_head-returns-in-Function-clause-refused
 applied::at_head-returns-in-Function-clause-refused t c =
@@ -356,7 +297,7 @@ applied::at_head-named-requires t c =
 
 pub applied::at_head-returns-in-Tag-clause-typed : goal.applied::at_head-returns-in-Tag-clause-typed
 applied::at_head-returns-in-Tag-clause-typed t c =
-    ok-along c.build.result (λ o h na. applying.spine-gives c.args.around.now c.args.sites.now c.build.new.sites c.args.e.now.form (forms_in c.args.args.now) o na (λ w s st. h w s c.args.e.now.form st (applying.callee-tag w s c.args.e.now.form c.in_ok-callee.callee c.in-Tag.number c.in-Tag.is (c.in_ok-callee.ensures.callee w s st)).0 (applying.callee-tag w s c.args.e.now.form c.in_ok-callee.callee c.in-Tag.number c.in-Tag.is (c.in_ok-callee.ensures.callee w s st)).1)) c.build.ensures.typed
+    ok-along c.build.result (λ o h na. applying.spine-gives c.args.around.now c.args.sites.now c.build.new.sites c.args.e.now.form (forms_in c.args.args) o na (λ w s st. h w s c.args.e.now.form st (applying.callee-tag w s c.args.e.now.form c.in_ok-callee.callee c.in-Tag.number c.in-Tag.is (c.in_ok-callee.ensures.callee w s st)).0 (applying.callee-tag w s c.args.e.now.form c.in_ok-callee.callee c.in-Tag.number c.in-Tag.is (c.in_ok-callee.ensures.callee w s st)).1)) c.build.ensures.typed
 
 pub applied::at_head-returns-in-Tag-clause-refused : goal.applied::at_head-returns-in-Tag-clause-refused
 applied::at_head-returns-in-Tag-clause-refused t c =
@@ -364,7 +305,7 @@ applied::at_head-returns-in-Tag-clause-refused t c =
 
 pub applied::at_head-returns-in-Other-clause-typed : goal.applied::at_head-returns-in-Other-clause-typed
 applied::at_head-returns-in-Other-clause-typed t c =
-    ok-along c.other.result (λ o h na. applying.spine-gives c.args.around.now c.args.sites.now c.other.new.sites c.args.e.now.form (forms_in c.args.args.now) o na (λ w s st. h w s st (applying.callee-other w s c.args.e.now.form c.in_ok-callee.callee c.in-Other.is (c.in_ok-callee.ensures.callee w s st)).0 (applying.other-tag w c.args.e.now.form (applying.callee-other w s c.args.e.now.form c.in_ok-callee.callee c.in-Other.is (c.in_ok-callee.ensures.callee w s st)).1) (applying.other-head c.args.e.now.form na (applying.callee-other w s c.args.e.now.form c.in_ok-callee.callee c.in-Other.is (c.in_ok-callee.ensures.callee w s st)).1))) c.other.ensures.typed
+    ok-along c.other.result (λ o h na. applying.spine-gives c.args.around.now c.args.sites.now c.other.new.sites c.args.e.now.form (forms_in c.args.args) o na (λ w s st. h w s st (applying.callee-other w s c.args.e.now.form c.in_ok-callee.callee c.in-Other.is (c.in_ok-callee.ensures.callee w s st)).0 (applying.other-tag w c.args.e.now.form (applying.callee-other w s c.args.e.now.form c.in_ok-callee.callee c.in-Other.is (c.in_ok-callee.ensures.callee w s st)).1) (applying.other-head c.args.e.now.form na (applying.callee-other w s c.args.e.now.form c.in_ok-callee.callee c.in-Other.is (c.in_ok-callee.ensures.callee w s st)).1))) c.other.ensures.typed
 
 pub applied::at_head-returns-in-Other-clause-refused : goal.applied::at_head-returns-in-Other-clause-refused
 applied::at_head-returns-in-Other-clause-refused t c =
@@ -374,29 +315,29 @@ pub applied::at_head-returns-in_err-callee-clause-refused : goal.applied::at_hea
 applied::at_head-returns-in_err-callee-clause-refused t c =
     refused-exit c.from_residual.result c.in_err-callee.field-0.0 c.from_residual.ensures.1 (λ r h na w s st. applying.callee-tells na (h w s st)) c.in_err-callee.ensures.refused
 
-pub applied::arguments-loop-left-init : goal.applied::arguments-loop-left-init
-applied::arguments-loop-left-init t c =
-    applying.all-first c.args.around.now (forms_in c.args.args.now) c.args.types.now c.args.sites.now c.new-done.result c.new-done.ensures
+pub applied::arguments-loop-e-init : goal.applied::arguments-loop-e-init
+applied::arguments-loop-e-init t c =
+    applying.all-first c.args.around.now (forms_in c.args.args) c.args.types.now c.args.sites.now c.new-done.result c.new-done.ensures
 
-pub applied::arguments-loop-left-preserved : goal.applied::arguments-loop-left-preserved
-applied::arguments-loop-left-preserved t c =
-    applying.all-step c.args.around.now (forms_in c.args.args.now) c.args.types.now c.args.sites.now c.in-More.e.now.form (forms_in c.in-More.rest.now) (forms_in c.loop-left.left.now) c.in-Some.of.now c.in-Some.behind.now c.loop-left.wanted.now c.loop-left.sites c.typed.new.sites c.loop-left.done c.in_ok-done-in-Some.done c.in_ok-out-in-Some.out (applying.more-forms c.loop-left.left.now c.in-More.e c.in-More.rest c.in-More.is) c.in-Some.ensures.cases.0 c.in_ok-out-in-Some.ensures.typed c.in_ok-done-in-Some.ensures c.loop-left.invariant
+pub applied::arguments-loop-e-preserved : goal.applied::arguments-loop-e-preserved
+applied::arguments-loop-e-preserved t c =
+    applying.all-step c.args.around.now (forms_in c.args.args) c.args.types.now c.args.sites.now c.in-Some.e.now.form (forms_in c.pop.new.self) (forms_in c.loop-e.left) c.in-Some-split_first.of.now c.in-Some-split_first.behind.now c.loop-e.wanted.now c.loop-e.sites c.typed.new.sites c.loop-e.done c.in_ok-done-in-Some-split_first.done c.in_ok-out-in-Some-split_first.out (applying.more-forms c.loop-e.left c.pop.new.self c.in-Some.e c.in-Some.ensures) c.in-Some-split_first.ensures.cases.0 c.in_ok-out-in-Some-split_first.ensures.typed c.in_ok-done-in-Some-split_first.ensures c.loop-e.invariant
 
-pub applied::arguments-returns-in_err-out-in-Some-clause-refused : goal.applied::arguments-returns-in_err-out-in-Some-clause-refused
-applied::arguments-returns-in_err-out-in-Some-clause-refused t c =
-    refused-exit c.from_residual.result c.in_err-out-in-Some.field-0.0 c.from_residual.ensures.1 (λ r h. applying.arg-tells c.args.around.now (forms_in c.args.args.now) c.args.types.now c.args.sites.now c.in-More.e.now.form (forms_in c.in-More.rest.now) (forms_in c.loop-left.left.now) c.in-Some.of.now c.in-Some.behind.now c.loop-left.wanted.now c.loop-left.sites c.loop-left.done r (applying.more-forms c.loop-left.left.now c.in-More.e c.in-More.rest c.in-More.is) c.in-Some.ensures.cases.0 c.loop-left.invariant h) c.in_err-out-in-Some.ensures.refused
+pub applied::arguments-returns-in_err-out-in-Some-split_first-clause-refused : goal.applied::arguments-returns-in_err-out-in-Some-split_first-clause-refused
+applied::arguments-returns-in_err-out-in-Some-split_first-clause-refused t c =
+    refused-exit c.from_residual.result c.in_err-out-in-Some-split_first.field-0.0 c.from_residual.ensures.1 (λ r h. applying.arg-tells c.args.around.now (forms_in c.args.args) c.args.types.now c.args.sites.now c.in-Some.e.now.form (forms_in c.pop.new.self) (forms_in c.loop-e.left) c.in-Some-split_first.of.now c.in-Some-split_first.behind.now c.loop-e.wanted.now c.loop-e.sites c.loop-e.done r (applying.more-forms c.loop-e.left c.pop.new.self c.in-Some.e c.in-Some.ensures) c.in-Some-split_first.ensures.cases.0 c.loop-e.invariant h) c.in_err-out-in-Some-split_first.ensures.refused
 
 pub applied::arguments-returns-in-None-clause-refused : goal.applied::arguments-returns-in-None-clause-refused
 applied::arguments-returns-in-None-clause-refused t c =
-    applying.many-told c.args.around.now (forms_in c.args.args.now) c.args.types.now c.args.sites.now c.in-More.e.now.form (forms_in c.in-More.rest.now) (forms_in c.loop-left.left.now) c.loop-left.wanted.now c.loop-left.sites c.loop-left.done c.extra_argument.result (applying.more-forms c.loop-left.left.now c.in-More.e c.in-More.rest c.in-More.is) (nil_from_length c.loop-left.wanted.now c.in-None.ensures.cases) c.loop-left.invariant c.extra_argument.ensures
+    applying.many-told c.args.around.now (forms_in c.args.args) c.args.types.now c.args.sites.now c.in-Some.e.now.form (forms_in c.pop.new.self) (forms_in c.loop-e.left) c.loop-e.wanted.now c.loop-e.sites c.loop-e.done c.extra_argument.result (applying.more-forms c.loop-e.left c.pop.new.self c.in-Some.e c.in-Some.ensures) (nil_from_length c.loop-e.wanted.now c.in-None.ensures.cases) c.loop-e.invariant c.extra_argument.ensures
 
 pub applied::arguments-returns-in-None-split_first-clause-typed : goal.applied::arguments-returns-in-None-split_first-clause-typed
 applied::arguments-returns-in-None-split_first-clause-typed t c =
-    applying.args-given c.args.around.now (forms_in c.args.args.now) c.args.types.now c.args.sites.now (forms_in c.loop-left.left.now) c.loop-left.wanted.now c.loop-left.sites c.loop-left.done (applying.no-forms c.loop-left.left.now c.in_default.not-More) (nil_from_length c.loop-left.wanted.now c.in-None-split_first.ensures.cases) c.loop-left.invariant
+    applying.args-given c.args.around.now (forms_in c.args.args) c.args.types.now c.args.sites.now (forms_in c.loop-e.left) c.loop-e.wanted.now c.loop-e.sites c.loop-e.done (applying.no-forms c.loop-e.left c.in_default.ensures.0) (nil_from_length c.loop-e.wanted.now c.in-None-split_first.ensures.cases) c.loop-e.invariant
 
-pub applied::arguments-returns-in-Some-split_first-clause-refused : goal.applied::arguments-returns-in-Some-split_first-clause-refused
-applied::arguments-returns-in-Some-split_first-clause-refused t c =
-    applying.few-told c.args.around.now (forms_in c.args.args.now) c.args.types.now c.args.sites.now (forms_in c.loop-left.left.now) _ _ c.loop-left.wanted.now c.loop-left.sites c.loop-left.done c.missing_argument.result (applying.no-forms c.loop-left.left.now c.in_default.not-More) c.in-Some-split_first.ensures.cases.0 c.loop-left.invariant c.missing_argument.ensures
+pub applied::arguments-returns-in-Some-split_first-2-clause-refused : goal.applied::arguments-returns-in-Some-split_first-2-clause-refused
+applied::arguments-returns-in-Some-split_first-2-clause-refused t c =
+    applying.few-told c.args.around.now (forms_in c.args.args) c.args.types.now c.args.sites.now (forms_in c.loop-e.left) _ _ c.loop-e.wanted.now c.loop-e.sites c.loop-e.done c.missing_argument.result (applying.no-forms c.loop-e.left c.in_default.ensures.0) c.in-Some-split_first-2.ensures.cases.0 c.loop-e.invariant c.missing_argument.ensures
 
 pub applied::named-returns-in-Some-clause-typed : goal.applied::named-returns-in-Some-clause-typed
 applied::named-returns-in-Some-clause-typed t c =
@@ -408,7 +349,7 @@ applied::named-returns-in-Some-clause-refused t c =
 
 pub applied::call-returns-clause-typed : goal.applied::call-returns-clause-typed
 applied::call-returns-clause-typed t c =
-    λ w s x st is eh. applying.call-gives w s (sites_in c.args.sites.now) x (forms_in c.args.args.now) (c.args.function.number, c.args.function.args) (head_in c.args.head.now) c.in_ok-done.done (sites_in c.arguments.new.sites) c.in_ok-made.made is.at eh (c.in_ok-types.ensures.met w s st) (subst (λ z. GivesArgs c.args.around.now c.args.sites.now (forms_in c.args.args.now) z c.in_ok-done.done c.arguments.new.sites) (c.as_slice.ensures ∙ c.in_ok-types.ensures.types) c.in_ok-done.ensures.typed w s st) c.in_ok-made.ensures.fixed (c.in_ok-made.ensures.of ∙ c.in_ok-types.ensures.of) (c.in_ok-made.ensures.exp ∙ ap (λ z. make.apply (exp.Function c.args.function.number z) (args_with c.in_ok-done.done).0 (args_with c.in_ok-done.done).1) c.cons_of-cons.ensures)
+    λ w s x st is eh. applying.call-gives w s (sites_in c.args.sites.now) x (forms_in c.args.args) (c.args.function.number, c.args.function.args) (head_in c.args.head.now) c.in_ok-done.done (sites_in c.arguments.new.sites) c.in_ok-made.made is.at eh (c.in_ok-types.ensures.met w s st) (subst (λ z. GivesArgs c.args.around.now c.args.sites.now (forms_in c.args.args) z c.in_ok-done.done c.arguments.new.sites) (c.as_slice.ensures ∙ c.in_ok-types.ensures.types) c.in_ok-done.ensures.typed w s st) c.in_ok-made.ensures.fixed (c.in_ok-made.ensures.of ∙ c.in_ok-types.ensures.of) (c.in_ok-made.ensures.exp ∙ ap (λ z. make.apply (exp.Function c.args.function.number z) (args_with c.in_ok-done.done).0 (args_with c.in_ok-done.done).1) c.cons_of-cons.ensures)
 
 pub applied::call-returns-in_err-types-clause-refused : goal.applied::call-returns-in_err-types-clause-refused
 applied::call-returns-in_err-types-clause-refused t c =
@@ -416,19 +357,19 @@ applied::call-returns-in_err-types-clause-refused t c =
 
 pub applied::call-returns-in_err-done-clause-refused : goal.applied::call-returns-in_err-done-clause-refused
 applied::call-returns-in_err-done-clause-refused t c =
-    refused-exit c.from_residual-in_err-done.result c.in_err-done.field-0.0 c.from_residual-in_err-done.ensures.1 (λ r h w s x st is eh. applying.named-tells (c.args.function.number, c.args.function.args) (head_in c.args.head.now) is.at eh (subst (λ z. TellsArgs c.args.around.now c.args.sites.now (forms_in c.args.args.now) z r) (c.as_slice.ensures ∙ c.in_ok-types.ensures.types) h w s st)) c.in_err-done.ensures.refused
+    refused-exit c.from_residual-in_err-done.result c.in_err-done.field-0.0 c.from_residual-in_err-done.ensures.1 (λ r h w s x st is eh. applying.named-tells (c.args.function.number, c.args.function.args) (head_in c.args.head.now) is.at eh (subst (λ z. TellsArgs c.args.around.now c.args.sites.now (forms_in c.args.args) z r) (c.as_slice.ensures ∙ c.in_ok-types.ensures.types) h w s st)) c.in_err-done.ensures.refused
 
 pub applied::call-returns-in_err-made-clause-refused : goal.applied::call-returns-in_err-made-clause-refused
 applied::call-returns-in_err-made-clause-refused t c =
-    refused-exit c.from_residual-in_err-made.result c.in_err-made.field-0.0 c.from_residual-in_err-made.ensures.1 (λ r h w s x st is eh. applying.static-tells (c.args.function.number, c.args.function.args) (head_in c.args.head.now) c.in_ok-done.done is.at eh (subst (λ z. GivesArgs c.args.around.now c.args.sites.now (forms_in c.args.args.now) z c.in_ok-done.done c.arguments.new.sites) (c.as_slice.ensures ∙ c.in_ok-types.ensures.types) c.in_ok-done.ensures.typed w s st) h) c.in_err-made.ensures.refused
+    refused-exit c.from_residual-in_err-made.result c.in_err-made.field-0.0 c.from_residual-in_err-made.ensures.1 (λ r h w s x st is eh. applying.static-tells (c.args.function.number, c.args.function.args) (head_in c.args.head.now) c.in_ok-done.done is.at eh (subst (λ z. GivesArgs c.args.around.now c.args.sites.now (forms_in c.args.args) z c.in_ok-done.done c.arguments.new.sites) (c.as_slice.ensures ∙ c.in_ok-types.ensures.types) c.in_ok-done.ensures.typed w s st) h) c.in_err-made.ensures.refused
 
 pub applied::named-call-requires : goal.applied::named-call-requires
 applied::named-call-requires t c =
-    (lower c.args.around.now.levels 2 3 t (omega arith) c.decreases, (c.requires.stands, c.requires.ordered))
+    (lower c.args.around.now.levels 6 7 t (omega arith) c.decreases, (c.requires.stands, c.requires.ordered))
 
 pub applied::call-arguments-requires : goal.applied::call-arguments-requires
 applied::call-arguments-requires t c =
-    (lower c.args.around.now.levels 1 2 t (omega arith) c.decreases, c.requires.stands)
+    (lower c.args.around.now.levels 5 6 t (omega arith) c.decreases, c.requires.stands)
 
 pub applied::call-call_types-requires : goal.applied::call-call_types-requires
 applied::call-call_types-requires t c =
@@ -456,11 +397,11 @@ applied::built-returns-in_err-out-in-Some-clause-refused t c =
 
 pub applied::built-returns-in-None-clause-refused : goal.applied::built-returns-in-None-clause-refused
 applied::built-returns-in-None-clause-refused t c =
-    applying.none-told c.args.around.now c.args.sites.now c.args.number c.args.variant.now.datatype (forms_in c.args.args.now) c.args.variant.now.arg c.extra_argument.result c.in-None.is c.extra_argument.ensures
+    applying.none-told c.args.around.now c.args.sites.now c.args.number c.args.variant.now.datatype (forms_in c.args.args) c.args.variant.now.arg c.extra_argument.result c.in-None.is c.extra_argument.ensures
 
 pub applied::other-returns-clause-typed : goal.applied::other-returns-clause-typed
 applied::other-returns-clause-typed t c =
-    λ w s st ef en eh. applying.value-gives w s (sites_in c.args.sites.now) c.args.e.now.form (forms_in c.args.args.now) (out_in c.in_ok-function.function c.typed.new.sites) c.in_ok-done.done (sites_in c.arguments.new.sites) c.in_ok-made.made ef en eh (c.in_ok-function.ensures.typed w s st) (subst (λ z. GivesArgs c.args.around.now c.typed.new.sites (forms_in c.args.args.now) z c.in_ok-done.done c.arguments.new.sites) (c.as_slice.ensures ∙ c.in_ok-types.ensures) c.in_ok-done.ensures.typed w s st) c.in_ok-made.ensures.of c.in_ok-made.ensures.exp
+    λ w s st ef en eh. applying.value-gives w s (sites_in c.args.sites.now) c.args.e.now.form (forms_in c.args.args) (out_in c.in_ok-function.function c.typed.new.sites) c.in_ok-done.done (sites_in c.arguments.new.sites) c.in_ok-made.made ef en eh (c.in_ok-function.ensures.typed w s st) (subst (λ z. GivesArgs c.args.around.now c.typed.new.sites (forms_in c.args.args) z c.in_ok-done.done c.arguments.new.sites) (c.as_slice.ensures ∙ c.in_ok-types.ensures) c.in_ok-done.ensures.typed w s st) c.in_ok-made.ensures.of c.in_ok-made.ensures.exp
 
 pub applied::other-returns-in_err-function-clause-refused : goal.applied::other-returns-in_err-function-clause-refused
 applied::other-returns-in_err-function-clause-refused t c =
@@ -468,7 +409,7 @@ applied::other-returns-in_err-function-clause-refused t c =
 
 pub applied::other-returns-in_err-done-clause-refused : goal.applied::other-returns-in_err-done-clause-refused
 applied::other-returns-in_err-done-clause-refused t c =
-    refused-exit c.from_residual-in_err-done.result c.in_err-done.field-0.0 c.from_residual-in_err-done.ensures.1 (λ r h w s st ef en. applying.value-tells (out_in c.in_ok-function.function c.typed.new.sites) ef en (c.in_ok-function.ensures.typed w s st) (subst (λ z. TellsArgs c.args.around.now c.typed.new.sites (forms_in c.args.args.now) z r) (c.as_slice.ensures ∙ c.in_ok-types.ensures) h w s st)) c.in_err-done.ensures.refused
+    refused-exit c.from_residual-in_err-done.result c.in_err-done.field-0.0 c.from_residual-in_err-done.ensures.1 (λ r h w s st ef en. applying.value-tells (out_in c.in_ok-function.function c.typed.new.sites) ef en (c.in_ok-function.ensures.typed w s st) (subst (λ z. TellsArgs c.args.around.now c.typed.new.sites (forms_in c.args.args) z r) (c.as_slice.ensures ∙ c.in_ok-types.ensures) h w s st)) c.in_err-done.ensures.refused
 
 pub walk::walk-returns-in-Bind-clause-typed : goal.walk::walk-returns-in-Bind-clause-typed
 walk::walk-returns-in-Bind-clause-typed t c =
@@ -530,31 +471,6 @@ bound::binding-returns-clause-typed t c =
     c.in_ok-local.ensures c.from_ref.ensures.value c.within-inner.ensures c.in_ok-value.ensures.value c.in_ok-first.ensures.typed c.in_ok-second.ensures.typed c.in_ok-out.ensures.value c.in_ok-out.ensures.of c.in_ok-out.ensures.exp
 
 -- ---- conditionals
-
-pub bound::conditional-returns-in_err-condition-clause-refused : goal.bound::conditional-returns-in_err-condition-clause-refused
-bound::conditional-returns-in_err-condition-clause-refused t c = refused-exit c.from_residual.result c.in_err-condition.field-0.0 c.from_residual.ensures.1
-    (in-condition c.args.around.now c.args.sites.now (mode_of (option_copied c.args.wanted)) c.args.c.now c.args.a.now c.args.b.now) c.in_err-condition.ensures.refused
-
-pub bound::conditional-returns-in_err-yes-clause-refused : goal.bound::conditional-returns-in_err-yes-clause-refused
-bound::conditional-returns-in_err-yes-clause-refused t c = refused-exit c.from_residual-in_err-yes.result c.in_err-yes.field-0.0 c.from_residual-in_err-yes.ensures.1
-    (in-choices c.args.around.now c.args.sites.now c.typed.new.sites (mode_of (option_copied c.args.wanted)) c.args.c.now c.args.a.now c.args.b.now c.in_ok-condition.condition c.in_ok-condition.ensures.typed) c.in_err-yes.ensures.refused
-
-pub bound::conditional-returns-clause-typed : goal.bound::conditional-returns-clause-typed
-bound::conditional-returns-clause-typed t c =
-    if-made c.args.around.now c.args.sites.now c.typed.new.sites c.choices.new.sites (mode_of (option_copied c.args.wanted)) c.args.c.now c.args.a.now c.args.b.now c.in_ok-condition.condition c.in_ok-yes.yes c.in_ok-yes.no (record { of = c.in_ok-yes.yes.of; exp = c.in_ok-exp.exp })
-    c.in_ok-condition.ensures.typed c.in_ok-yes.ensures.typed refl c.in_ok-exp.ensures
-
-pub bound::choices-returns-in_err-yes-clause-refused : goal.bound::choices-returns-in_err-yes-clause-refused
-bound::choices-returns-in_err-yes-clause-refused t c = refused-exit c.from_residual.result c.in_err-yes.field-0.0 c.from_residual.ensures.1
-    (in-yes c.args.around.now c.args.sites.now (mode_of (option_copied c.args.wanted)) c.args.a.now c.args.b.now) c.in_err-yes.ensures.refused
-
-pub bound::choices-returns-in_err-no-clause-refused : goal.bound::choices-returns-in_err-no-clause-refused
-bound::choices-returns-in_err-no-clause-refused t c = refused-exit c.from_residual-in_err-no.result c.in_err-no.field-0.0 c.from_residual-in_err-no.ensures.1
-    (in-no c.args.around.now c.args.sites.now c.typed.new.sites (mode_of (option_copied c.args.wanted)) c.args.a.now c.args.b.now c.in_ok-yes.yes c.in_ok-yes.ensures.typed) c.in_err-no.ensures.refused
-
-pub bound::choices-returns-clause-typed : goal.bound::choices-returns-clause-typed
-bound::choices-returns-clause-typed t c =
-    choice-made c.args.around.now c.args.sites.now c.typed.new.sites c.typed-2.new.sites (mode_of (option_copied c.args.wanted)) c.args.a.now c.args.b.now c.in_ok-yes.yes c.in_ok-no.no c.in_ok-yes.ensures.typed c.in_ok-no.ensures.typed
 
 -- ---- branches
 
@@ -672,33 +588,45 @@ bound::lambda-returns-clause-typed t c =
 
 -- ---- the recursion ends
 
+pub chain::chosen-typed-requires : goal.chain::chosen-typed-requires
+chain::chosen-typed-requires t c = (
+  falls-deeper 4 1 c.args.around.now.levels c.in_ok-inner.inner.levels t c.in_ok-inner.ensures.2 (omega arith) c.decreases,
+  somewhere-there c.args.around.now c.in_ok-inner.inner c.in_ok-inner.ensures.0 c.in_ok-inner.ensures.1 c.requires,
+)
+
+pub chain::chosen-typed-requires-2 : goal.chain::chosen-typed-requires-2
+chain::chosen-typed-requires-2 t c = (
+  falls-deeper 4 1 c.args.around.now.levels c.in_ok-inner.inner.levels t c.in_ok-inner.ensures.2 (omega arith) c.decreases,
+  somewhere-there c.args.around.now c.in_ok-inner.inner c.in_ok-inner.ensures.0 c.in_ok-inner.ensures.1 c.requires,
+)
+
 pub bound::binding-typed-requires-2 : goal.bound::binding-typed-requires-2
 bound::binding-typed-requires-2 t c = (
-  falls-whole 1 c.args.around.now.levels c.within-inner.result.levels t c.within-inner.ensures.levels (omega arith) c.decreases,
+  falls 4 5 c.args.around.now.levels c.within-inner.result.levels t c.within-inner.ensures.levels (omega arith) c.decreases,
   somewhere-bound c.args.around.now c.within-inner.result c.args.x.now c.in_ok-value.value c.in_ok-local.local c.from_ref.result.now c.in_ok-local.ensures c.from_ref.ensures.value c.within-inner.ensures c.requires,
 )
 
 pub bound::branch-typed-requires : goal.bound::branch-typed-requires
 bound::branch-typed-requires t c = (
-  falls-whole 1 c.args.around.now.levels c.within-inner.result.levels t c.within-inner.ensures.levels (omega arith) c.decreases,
+  falls 4 5 c.args.around.now.levels c.within-inner.result.levels t c.within-inner.ensures.levels (omega arith) c.decreases,
   somewhere-branch c.args.around.now c.within-inner.result c.args.written.now.pat.form c.in_ok-locals.pattern c.in_ok-locals.locals c.as_slice-own.result.now c.in_ok-locals.ensures.pattern c.as_slice-own.ensures c.within-inner.ensures c.requires,
 )
 
 pub bound::val_in-further-requires : goal.bound::val_in-further-requires
 bound::val_in-further-requires t c = (
-  falls 1 2 c.args.around.now.levels c.within-inner.result.levels t c.within-inner.ensures.levels (omega arith) c.decreases,
+  falls 5 6 c.args.around.now.levels c.within-inner.result.levels t c.within-inner.ensures.levels (omega arith) c.decreases,
   somewhere-val c.args.around.now c.within-inner.result c.args.val.now c.in_ok-of.of c.in_ok-local.local c.from_ref.result.now c.in_ok-local.ensures c.from_ref.ensures.value c.within-inner.ensures c.requires,
 )
 
 pub bound::further-val_in-requires : goal.bound::further-val_in-requires
 bound::further-val_in-requires t c = (
-  falls-deeper 2 1 c.args.around.now.levels c.in_ok-inner-in-Some.inner.levels t c.in_ok-inner-in-Some.ensures.2 (omega arith) c.decreases,
+  falls-deeper 6 5 c.args.around.now.levels c.in_ok-inner-in-Some.inner.levels t c.in_ok-inner-in-Some.ensures.2 (omega arith) c.decreases,
   somewhere-there c.args.around.now c.in_ok-inner-in-Some.inner c.in_ok-inner-in-Some.ensures.0 c.in_ok-inner-in-Some.ensures.1 c.requires,
 )
 
 pub bound::lambda-typed-requires : goal.bound::lambda-typed-requires
 bound::lambda-typed-requires t c = (
-  falls-whole 1 c.args.around.now.levels c.within_lambda-inner.result.levels t c.within_lambda-inner.ensures.levels (omega arith) c.decreases,
+  falls 4 5 c.args.around.now.levels c.within_lambda-inner.result.levels t c.within_lambda-inner.ensures.levels (omega arith) c.decreases,
   somewhere-lambda c.args.around.now c.within_lambda-inner.result c.as_slice-own.result.now c.within_lambda-inner.ensures c.requires,
 )
 
@@ -711,14 +639,6 @@ bound::let_in-returns-in-Some-clause-typed t c =
 pub bound::let_in-returns-in-Some-clause-refused : goal.bound::let_in-returns-in-Some-clause-refused
 bound::let_in-returns-in-Some-clause-refused t c =
     refused-along c.val_in.result (in-vals c.args.around.now c.args.sites.now (mode_of (option_copied c.args.wanted)) c.args.vals.now c.in-Some.val.now c.in-Some.rest.now c.args.body.now c.in-Some.ensures.cases.0) c.val_in.ensures.refused
-
-pub walk::walk_further-returns-in-If-clause-typed : goal.walk::walk_further-returns-in-If-clause-typed
-walk::walk_further-returns-in-If-clause-typed t c =
-    arm c.args.around.now c.args.sites.now c.conditional.new.sites c.args.e.now.form (e.If c.get.result.now c.get-in-If.result.now c.get-in-If-2.result.now) (mode_of (option_copied c.args.wanted)) c.conditional.result (c.in-If.is ∙ ap₂ (λ x y. e.If x y c.in-If.b) (sym c.get.ensures) (sym c.get-in-If.ensures) ∙ ap (λ z. e.If c.get.result.now c.get-in-If.result.now z) (sym c.get-in-If-2.ensures)) c.conditional.ensures.typed
-
-pub walk::walk_further-returns-in-If-clause-refused : goal.walk::walk_further-returns-in-If-clause-refused
-walk::walk_further-returns-in-If-clause-refused t c =
-    arm-tells c.args.around.now c.args.sites.now c.args.e.now.form (e.If c.get.result.now c.get-in-If.result.now c.get-in-If-2.result.now) (mode_of (option_copied c.args.wanted)) c.conditional.result (c.in-If.is ∙ ap₂ (λ x y. e.If x y c.in-If.b) (sym c.get.ensures) (sym c.get-in-If.ensures) ∙ ap (λ z. e.If c.get.result.now c.get-in-If.result.now z) (sym c.get-in-If-2.ensures)) c.conditional.ensures.refused
 
 pub walk::sequence-returns-clause-typed : goal.walk::sequence-returns-clause-typed
 walk::sequence-returns-clause-typed t c =
@@ -847,7 +767,7 @@ folded::step_in-returns-clause-typed t c =
 
 pub folded::step_in-typed-requires : goal.folded::step_in-typed-requires
 folded::step_in-typed-requires t c = (
-  falls-whole 1 c.args.around.now.levels c.behind_acc-inner.result.levels t c.behind_acc-inner.ensures.levels (omega arith) c.decreases,
+  falls 4 5 c.args.around.now.levels c.behind_acc-inner.result.levels t c.behind_acc-inner.ensures.levels (omega arith) c.decreases,
   somewhere-step c.args.around.now c.in_step-bare.result c.behind_acc-inner.result c.args.params.now c.in_ok-step.step c.in_ok-scope.scope c.in_ok-local.local c.from_ref-own.result.now (record { form = c.in_ok-step.ensures.form; made = (record { names = c.in_ok-scope.ensures.names; kinds = c.in_ok-scope.ensures.kinds; known = c.in_ok-scope.ensures.known }); there = c.in_step-bare.ensures }) c.from_ref-own.ensures.value c.behind_acc-inner.ensures c.requires,
 )
 
@@ -927,7 +847,7 @@ embedded::each-returns-in_default-clause-refused t c =
 
 pub embedded::rows-typed-requires : goal.embedded::rows-typed-requires
 embedded::rows-typed-requires t c = (
-  falls-whole 1 c.args.around.now.levels c.within-inner.result.levels t c.within-inner.ensures.levels (omega arith) c.decreases,
+  falls 4 5 c.args.around.now.levels c.within-inner.result.levels t c.within-inner.ensures.levels (omega arith) c.decreases,
   somewhere-bound c.args.around.now c.within-inner.result c.in_ok-x.x.now c.row_record-whole.result c.in_ok-local.local c.from_ref.result.now c.in_ok-local.ensures c.from_ref.ensures.value c.within-inner.ensures c.requires,
 )
 
@@ -1055,7 +975,7 @@ markup::part_out-returns-in_ok-inner-in-Element-clause-refused t c =
 
 pub markup::part_out-element-requires : goal.markup::part_out-element-requires
 markup::part_out-element-requires t c =
-    (falls-deeper 31 19 c.args.around.now.levels c.in_ok-inner-in-Element.inner.levels t c.in_ok-inner-in-Element.ensures.2 (omega arith) c.decreases, somewhere-there c.args.around.now c.in_ok-inner-in-Element.inner c.in_ok-inner-in-Element.ensures.0 c.in_ok-inner-in-Element.ensures.1 c.requires)
+    (falls-deeper 35 23 c.args.around.now.levels c.in_ok-inner-in-Element.inner.levels t c.in_ok-inner-in-Element.ensures.2 (omega arith) c.decreases, somewhere-there c.args.around.now c.in_ok-inner-in-Element.inner c.in_ok-inner-in-Element.ensures.0 c.in_ok-inner-in-Element.ensures.1 c.requires)
 
 pub splices::shown-returns-in_err-may_show-clause-refused : goal.splices::shown-returns-in_err-may_show-clause-refused
 splices::shown-returns-in_err-may_show-clause-refused t c =
@@ -1208,41 +1128,29 @@ markup::form-returns-clause-typed t c =
 
 -- ---- targets, and values of fields
 
-pub targets::target_at-returns-in_ok-inner-in-App-clause-typed : goal.targets::target_at-returns-in_ok-inner-in-App-clause-typed
-targets::target_at-returns-in_ok-inner-in-App-clause-typed t c =
-    ok-along c.target_at.result (λ o h. target-further-gives c.args.around.now c.in_ok-inner-in-App.inner c.args.sites.now c.target_at.new.sites c.args.aim c.args.e.now.form c.get-in-App.result.now c.get.result.now (forms_in c.args.args.now) o c.in_ok-inner-in-App.ensures.0 c.in_ok-inner-in-App.ensures.1 (c.in-App.is ∙ ap₂ e.App (sym c.get-in-App.ensures) (sym c.get.ensures)) h) c.target_at.ensures.typed
+pub targets::target_at-returns-clause-typed : goal.targets::target_at-returns-clause-typed
+targets::target_at-returns-clause-typed t c =
+    ok-along c.target_named.result (λ o h. whole-aims c.args.around.now c.args.sites.now c.target_named.new.sites c.args.aim o (applying.no-forms c.new-args.result c.new-args.ensures) c.in_ok-head.ensures.applied (h c.in_ok-head.ensures.head)) c.target_named.ensures.typed
 
-pub targets::target_at-returns-in_ok-inner-in-App-clause-refused : goal.targets::target_at-returns-in_ok-inner-in-App-clause-refused
-targets::target_at-returns-in_ok-inner-in-App-clause-refused t c =
-    refused-along c.target_at.result (λ r h. target-further-tells c.args.around.now c.in_ok-inner-in-App.inner c.args.sites.now c.args.aim c.args.e.now.form c.get-in-App.result.now c.get.result.now (forms_in c.args.args.now) r c.in_ok-inner-in-App.ensures.0 c.in_ok-inner-in-App.ensures.1 (c.in-App.is ∙ ap₂ e.App (sym c.get-in-App.ensures) (sym c.get.ensures)) h) c.target_at.ensures.refused
-
-pub targets::target_at-target_at-requires : goal.targets::target_at-target_at-requires
-targets::target_at-target_at-requires t c =
-    (applying.spine-below c.args.around.now.levels c.in_ok-inner-in-App.inner.levels t c.in_ok-inner-in-App.ensures.2 c.decreases, somewhere-there c.args.around.now c.in_ok-inner-in-App.inner c.in_ok-inner-in-App.ensures.0 c.in_ok-inner-in-App.ensures.1 c.requires)
-
-pub targets::target_at-returns-in_default-clause-typed : goal.targets::target_at-returns-in_default-clause-typed
-targets::target_at-returns-in_default-clause-typed t c =
-    ok-along c.target_named.result (λ o h. h (applying.not-applied c.args.e.now.form c.in_default.not-App)) c.target_named.ensures.typed
-
-pub targets::target_at-returns-in_default-clause-refused : goal.targets::target_at-returns-in_default-clause-refused
-targets::target_at-returns-in_default-clause-refused t c =
-    refused-along c.target_named.result (λ r h. h (applying.not-applied c.args.e.now.form c.in_default.not-App)) c.target_named.ensures.refused
+pub targets::target_at-returns-clause-refused : goal.targets::target_at-returns-clause-refused
+targets::target_at-returns-clause-refused t c =
+    refused-along c.target_named.result (λ r h. whole-misses c.args.around.now c.args.sites.now c.args.aim r (applying.no-forms c.new-args.result c.new-args.ensures) c.in_ok-head.ensures.applied (h c.in_ok-head.ensures.head)) c.target_named.ensures.refused
 
 pub targets::target_named-returns-clause-typed : goal.targets::target_named-returns-clause-typed
 targets::target_named-returns-clause-typed t c =
-    λ na. target-gives c.args.around.now c.args.sites.now c.arguments.new.sites c.args.aim c.args.e.now.form (forms_in c.args.args.now) c.in_ok-target.target c.as_slice-types.result.now c.in_ok-done.done na c.in_ok-target.ensures.named c.in_ok-target.ensures.target c.as_slice-types.ensures c.in_ok-done.ensures.typed
+    λ na. target-gives c.args.around.now c.args.sites.now c.arguments.new.sites c.args.aim c.args.e.now.form (forms_in c.args.args) c.in_ok-target.target c.as_slice-types.result.now c.in_ok-done.done na c.in_ok-target.ensures.named c.in_ok-target.ensures.target c.as_slice-types.ensures c.in_ok-done.ensures.typed
 
 pub targets::target_named-returns-in_err-target-clause-refused : goal.targets::target_named-returns-in_err-target-clause-refused
 targets::target_named-returns-in_err-target-clause-refused t c =
-    refused-exit c.from_residual.result c.in_err-target.field-0.0 c.from_residual.ensures.1 (λ r h na. aim-tells c.args.around.now c.args.sites.now c.args.aim c.args.e.now.form (forms_in c.args.args.now) r na h) c.in_err-target.ensures.refused
+    refused-exit c.from_residual.result c.in_err-target.field-0.0 c.from_residual.ensures.1 (λ r h na. aim-tells c.args.around.now c.args.sites.now c.args.aim c.args.e.now.form (forms_in c.args.args) r na h) c.in_err-target.ensures.refused
 
 pub targets::target_named-returns-in_err-few_enough-clause-refused : goal.targets::target_named-returns-in_err-few_enough-clause-refused
 targets::target_named-returns-in_err-few_enough-clause-refused t c =
-    refused-exit c.from_residual-in_err-few_enough.result c.in_err-few_enough.field-0.0 c.from_residual-in_err-few_enough.ensures.1 (λ r h na. more-tells c.args.around.now c.args.sites.now c.args.aim c.args.e.now.form (forms_in c.args.args.now) c.in_ok-target.target c.as_slice-types.result.now r na c.in_ok-target.ensures.named c.in_ok-target.ensures.target c.as_slice-types.ensures h.0 h.1) c.in_err-few_enough.ensures.refused
+    refused-exit c.from_residual-in_err-few_enough.result c.in_err-few_enough.field-0.0 c.from_residual-in_err-few_enough.ensures.1 (λ r h na. more-tells c.args.around.now c.args.sites.now c.args.aim c.args.e.now.form (forms_in c.args.args) c.in_ok-target.target c.as_slice-types.result.now r na c.in_ok-target.ensures.named c.in_ok-target.ensures.target c.as_slice-types.ensures h.0 h.1) c.in_err-few_enough.ensures.refused
 
 pub targets::target_named-returns-in_err-done-clause-refused : goal.targets::target_named-returns-in_err-done-clause-refused
 targets::target_named-returns-in_err-done-clause-refused t c =
-    refused-exit c.from_residual-in_err-done.result c.in_err-done.field-0.0 c.from_residual-in_err-done.ensures.1 (λ r h na. args-tell c.args.around.now c.args.sites.now c.args.aim c.args.e.now.form (forms_in c.args.args.now) c.in_ok-target.target c.as_slice-types.result.now r na c.in_ok-target.ensures.named c.in_ok-target.ensures.target c.as_slice-types.ensures c.in_ok-few_enough.ensures.ok h) c.in_err-done.ensures.refused
+    refused-exit c.from_residual-in_err-done.result c.in_err-done.field-0.0 c.from_residual-in_err-done.ensures.1 (λ r h na. args-tell c.args.around.now c.args.sites.now c.args.aim c.args.e.now.form (forms_in c.args.args) c.in_ok-target.target c.as_slice-types.result.now r na c.in_ok-target.ensures.named c.in_ok-target.ensures.target c.as_slice-types.ensures c.in_ok-few_enough.ensures.ok h) c.in_err-done.ensures.refused
 
 pub targets::value_given-returns-in_ok-made-in-Text-clause-typed : goal.targets::value_given-returns-in_ok-made-in-Text-clause-typed
 targets::value_given-returns-in_ok-made-in-Text-clause-typed t c =

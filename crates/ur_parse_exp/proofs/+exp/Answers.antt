@@ -1,5 +1,5 @@
 use Rattle.std.specs.List.{AllByRecursion}
-use Rattle.std.proofs.Common.{refl, arith, sym, ◌∙◌, ◌+◌, ◌-◌, ◌*◌, ◌≡◌, true, false, drop, length, subst}
+use Rattle.std.proofs.Common.{refl, arith, sym, ◌∙◌, ◌+◌, ◌-◌, ◌*◌, ◌≡◌, ◌≤◌, true, false, drop, length, subst}
 use Rattle.std.proofs.lemmas.List.{nil_from_length}
 use Rattle.ur_parse_rules.specs.Rules.{nested}
 use Rattle.ur_parse_rules.specs.Places.{Moves}
@@ -20,6 +20,8 @@ use Rattle.ur_parse_exp.proofs.Consing as consing
 use Rattle.ur_parse_exp.proofs.Applying as applying
 use Rattle.ur_parse_exp.proofs.Sequences as sequences
 use Rattle.ur_parse_exp.proofs.Lines as lines
+use Rattle.ur_parse_exp.proofs.ChoiceRules as choices
+use Rattle.ur_parse_exp.proofs.SignRules as signs
 use Rattle.ur_parse_exp.proofs.Branches as branched
 use Rattle.ur_parse_exp.proofs.Records as fields
 use Rattle.ur_parse_exp.proofs.Posts as posts
@@ -74,54 +76,126 @@ line::exp-returns-else-sees-2-clause-found t c = sequences.alone_read (c.args.de
 
 -- ---- line
 
-pub line::line-returns-in_err-test-clause-refused : goal.line::line-returns-in_err-test-clause-refused
-line::line-returns-in_err-test-clause-refused t c = passed _ _ c.from_residual.ensures.1 c.in_err-test.ensures.refused (λ r h. lines.test_refused (c.sees.ensures.yes c.if-sees.true) h)
+pub line::line-unconditional-requires : goal.line::line-unconditional-requires
+line::line-unconditional-requires t c = (omega (arith, c.decreases), c.sees.ensures.no c.if-sees.false)
 
-pub line::line-returns-in_err-begin-clause-refused : goal.line::line-returns-in_err-begin-clause-refused
-line::line-returns-in_err-begin-clause-refused t c = passed _ _ c.from_residual-in_err-begin.ensures.1 c.in_err-begin.ensures.refused (λ r h. lines.then_missing (c.sees.ensures.yes c.if-sees.true) c.in_ok-test.ensures.found h)
+-- ---- conditional
 
-pub line::line-returns-in_err-first-clause-refused : goal.line::line-returns-in_err-first-clause-refused
-line::line-returns-in_err-first-clause-refused t c = passed _ _ c.from_residual-in_err-first.ensures.1 c.in_err-first.ensures.refused (λ r h. lines.first_refused (c.sees.ensures.yes c.if-sees.true) c.in_ok-test.ensures.found c.in_ok-begin.ensures.found h)
+pub line::conditional-choices-init : goal.line::conditional-choices-init
+line::conditional-choices-init t c = let e = c.new-before.ensures in record { start = omega arith; chain = rw e choices.choice_start }
 
-pub line::line-returns-in_err-begin-2-clause-refused : goal.line::line-returns-in_err-begin-2-clause-refused
-line::line-returns-in_err-begin-2-clause-refused t c = passed _ _ c.from_residual-in_err-begin-2.ensures.1 c.in_err-begin-2.ensures.refused (λ r h. lines.else_missing (c.sees.ensures.yes c.if-sees.true) c.in_ok-test.ensures.found c.in_ok-begin.ensures.found c.in_ok-first.ensures.found h)
+pub line::conditional-tested-requires : goal.line::conditional-tested-requires
+line::conditional-tested-requires t c = let s = c.choices.invariant.start in (omega (arith, c.decreases, s), c.sees.ensures.yes c.choices-test.true)
 
-pub line::line-returns-in_err-second-clause-refused : goal.line::line-returns-in_err-second-clause-refused
-line::line-returns-in_err-second-clause-refused t c = passed _ _ c.from_residual-in_err-second.ensures.1 c.in_err-second.ensures.refused (λ r h. lines.second_refused (c.sees.ensures.yes c.if-sees.true) c.in_ok-test.ensures.found c.in_ok-begin.ensures.found c.in_ok-first.ensures.found c.in_ok-begin-2.ensures.found h)
+pub line::conditional-returns-in_err-one-clause-refused : goal.line::conditional-returns-in_err-one-clause-refused
+line::conditional-returns-in_err-one-clause-refused t c = passed _ _ c.from_residual.ensures.1 c.in_err-one.ensures.refused
+    (λ r h. c.choices.invariant.chain.refused r h)
 
-pub line::line-returns-in_ok-made-clause-found : goal.line::line-returns-in_ok-made-clause-found
-line::line-returns-in_ok-made-clause-found t c = let e0 = c.in_ok-made.ensures.found.0 in let e1 = c.in_ok-made.ensures.found.1 in let s = c.span-covered.ensures in
-    let m : Moves c.args.tokens.now c.args.at c.in_ok-second.second.end = moves_on (mark_moves (c.sees.ensures.yes c.if-sees.true)) (moves_on c.in_ok-test.ensures.moves (moves_on (mark_moves c.in_ok-begin.ensures.found) (moves_on c.in_ok-first.ensures.moves (moves_on (mark_moves c.in_ok-begin-2.ensures.found) c.in_ok-second.ensures.moves)))) in
-    rw (e0, e1, s) (lines.if_read (c.sees.ensures.yes c.if-sees.true) c.in_ok-test.ensures.found c.in_ok-begin.ensures.found c.in_ok-first.ensures.found c.in_ok-begin-2.ensures.found c.in_ok-second.second.end m c.in_ok-second.ensures.found)
+pub line::conditional-choices-preserved : goal.line::conditional-choices-preserved
+line::conditional-choices-preserved t c = let s = c.choices.invariant.start in let p = c.in_ok-pushed.ensures.found in let m = choices.choice_moves
+    c.args.tokens.now c.choices.begin c.in_ok-one.next c.in_ok-one.one c.in_ok-one.ensures.found in record {
+      start = omega (arith, s, m);
+      chain = rw p (choices.choice_more c.args.tokens.now c.args.at c.choices.begin c.in_ok-one.next c.choices.before c.in_ok-one.one c.choices.invariant.chain
+          c.in_ok-one.ensures.found);
+    }
 
-pub line::line-returns-in_err-made-2-clause-refused : goal.line::line-returns-in_err-made-2-clause-refused
-line::line-returns-in_err-made-2-clause-refused t c = passed _ _ c.from_residual-in_err-made-2.ensures.1 c.in_err-made-2.ensures.refused (λ r h. lines.lambda_refused c.args.tokens.now c.args.at (c.sees-else-sees.ensures.yes c.if-sees-2.true) h)
+pub line::conditional-choices-smaller : goal.line::conditional-choices-smaller
+line::conditional-choices-smaller t c = let m = choices.choice_moves c.args.tokens.now c.choices.begin c.in_ok-one.next c.in_ok-one.one
+    c.in_ok-one.ensures.found in let b = (c.sees.ensures.yes c.choices-test.true).at.below in
+    omega (arith, m, b)
 
-pub line::line-returns-in_ok-made-2-clause-found : goal.line::line-returns-in_ok-made-2-clause-found
-line::line-returns-in_ok-made-2-clause-found t c = lines.lambda_read c.args.tokens.now c.args.at c.in_ok-made-2.made.end c.in_ok-made-2.ensures.found
+pub line::conditional-unconditional-requires : goal.line::conditional-unconditional-requires
+line::conditional-unconditional-requires t c = let s = c.choices.invariant.start in (omega (arith, c.decreases, s), c.sees.ensures.no c.choices-test.false)
 
-pub line::line-returns-in_err-scrutinee-clause-refused : goal.line::line-returns-in_err-scrutinee-clause-refused
-line::line-returns-in_err-scrutinee-clause-refused t c = passed _ _ c.from_residual-in_err-scrutinee.ensures.1 c.in_err-scrutinee.ensures.refused (λ r h. lines.scrutinee_refused (c.sees-else-sees-2.ensures.yes c.if-sees-3.true) h)
+pub line::conditional-returns-in_err-last-clause-refused : goal.line::conditional-returns-in_err-last-clause-refused
+line::conditional-returns-in_err-last-clause-refused t c = passed _ _ c.from_residual-in_err-last.ensures.1 c.in_err-last.ensures.refused
+    (λ r h. c.choices.invariant.chain.refused r h)
 
-pub line::line-returns-in_err-begin-3-clause-refused : goal.line::line-returns-in_err-begin-3-clause-refused
-line::line-returns-in_err-begin-3-clause-refused t c = passed _ _ c.from_residual-in_err-begin-3.ensures.1 c.in_err-begin-3.ensures.refused (λ r h. lines.of_missing (c.sees-else-sees-2.ensures.yes c.if-sees-3.true) c.in_ok-scrutinee.scrutinee.end c.in_ok-scrutinee.ensures.found h)
+pub line::conditional-returns-clause-moves : goal.line::conditional-returns-clause-moves
+line::conditional-returns-clause-moves t c = let s = c.choices.invariant.start in let m = c.in_ok-last.ensures.moves in let o = m.on in let e =
+    c.in_ok-made.ensures.found.1 in rw e (record { on = omega (arith, s, o); within = m.within })
 
-pub line::line-returns-in_err-first-2-clause-refused : goal.line::line-returns-in_err-first-2-clause-refused
-line::line-returns-in_err-first-2-clause-refused t c = passed _ _ c.from_residual-in_err-first-2.ensures.1 c.in_err-first-2.ensures.refused (λ r h. lines.bar_refused (c.sees-else-sees-2.ensures.yes c.if-sees-3.true) c.in_ok-scrutinee.scrutinee.end c.in_ok-scrutinee.ensures.found c.in_ok-begin-3.ensures.found (h _))
+pub line::conditional-returns-clause-found : goal.line::conditional-returns-clause-found
+line::conditional-returns-clause-found t c = let e0 = c.in_ok-made.ensures.found.0 in let e1 = c.in_ok-made.ensures.found.1 in let s = c.span-covered.ensures in
+    rw (e0, e1, s) (choices.choice_done c.args.tokens.now c.args.at c.choices.begin c.in_ok-last.last.end c.choices.before (ended c.in_ok-last.last.tree)
+    c.in_ok-last.ensures.moves c.choices.invariant.chain c.in_ok-last.ensures.found)
 
-pub line::line-returns-in_err-list-clause-refused : goal.line::line-returns-in_err-list-clause-refused
-line::line-returns-in_err-list-clause-refused t c = passed _ _ c.from_residual-in_err-list.ensures.1 c.in_err-list.ensures.refused (λ r h. lines.branches_refused (c.sees-else-sees-2.ensures.yes c.if-sees-3.true) c.in_ok-scrutinee.scrutinee.end c.in_ok-scrutinee.ensures.found c.in_ok-begin-3.ensures.found c.in_ok-first-2.first (c.in_ok-first-2.ensures.found _) h)
+-- ---- tested
 
-pub line::line-returns-in_ok-made-3-clause-found : goal.line::line-returns-in_ok-made-3-clause-found
-line::line-returns-in_ok-made-3-clause-found t c = let e0 = c.in_ok-made-3.ensures.exp in let e1 = c.in_ok-made-3.ensures.takes.0 in let e2 = c.in_ok-made-3.ensures.takes.1 in let e3 = c.in_ok-made-3.ensures.end in let s = c.span-covered-then-sees-3.ensures in
-    let m : Moves c.args.tokens.now c.args.at c.in_ok-list.list.end = moves_on (stays_on (moves_on (mark_moves (c.sees-else-sees-2.ensures.yes c.if-sees-3.true)) (moves_on c.in_ok-scrutinee.ensures.moves (mark_moves c.in_ok-begin-3.ensures.found))) c.in_ok-first-2.ensures.stays) c.in_ok-list.ensures.moves in
-    rw (e0, e1, e2, e3, s) (lines.case_read (c.sees-else-sees-2.ensures.yes c.if-sees-3.true) c.in_ok-scrutinee.scrutinee.end c.in_ok-scrutinee.ensures.found c.in_ok-begin-3.ensures.found c.in_ok-first-2.first (c.in_ok-first-2.ensures.found _) c.in_ok-list.list.end m c.in_ok-list.ensures.found)
+pub line::tested-returns-in_err-test-clause-refused : goal.line::tested-returns-in_err-test-clause-refused
+line::tested-returns-in_err-test-clause-refused t c = passed _ _ c.from_residual.ensures.1 c.in_err-test.ensures.refused
+    (λ r h. lines.test_refused c.requires h)
 
-pub line::line-returns-in_err-tree-clause-refused : goal.line::line-returns-in_err-tree-clause-refused
-line::line-returns-in_err-tree-clause-refused t c = passed _ _ c.from_residual-in_err-tree.ensures.1 c.in_err-tree.ensures.refused (λ r h. lines.left_refused c.args.tokens.now c.args.at (c.sees.ensures.no c.if-sees.false) (c.sees-else-sees.ensures.no c.if-sees-2.false) (c.sees-else-sees-2.ensures.no c.if-sees-3.false) h)
+pub line::tested-returns-in_err-begin-clause-refused : goal.line::tested-returns-in_err-begin-clause-refused
+line::tested-returns-in_err-begin-clause-refused t c = passed _ _ c.from_residual-in_err-begin.ensures.1 c.in_err-begin.ensures.refused
+    (λ r h. lines.then_missing c.requires c.in_ok-test.ensures.found h)
 
-pub line::line-returns-in_ok-tree-clause-found : goal.line::line-returns-in_ok-tree-clause-found
-line::line-returns-in_ok-tree-clause-found t c = let e = c.closed.ensures.tree in let f = c.closed.ensures.end in rw (e, f) (lines.left_read c.args.tokens.now c.args.at c.in_ok-tree.tree.end c.in_ok-tree.ensures.found)
+pub line::tested-returns-in_err-first-clause-refused : goal.line::tested-returns-in_err-first-clause-refused
+line::tested-returns-in_err-first-clause-refused t c = passed _ _ c.from_residual-in_err-first.ensures.1 c.in_err-first.ensures.refused
+    (λ r h. lines.first_refused c.requires c.in_ok-test.ensures.found c.in_ok-begin.ensures.found h)
+
+pub line::tested-returns-in_err-next-clause-refused : goal.line::tested-returns-in_err-next-clause-refused
+line::tested-returns-in_err-next-clause-refused t c = passed _ _ c.from_residual-in_err-next.ensures.1 c.in_err-next.ensures.refused
+    (λ r h. lines.else_missing c.requires c.in_ok-test.ensures.found c.in_ok-begin.ensures.found c.in_ok-first.ensures.found h)
+
+pub line::tested-returns-clause-found : goal.line::tested-returns-clause-found
+line::tested-returns-clause-found t c = record {
+  middle = c.in_ok-test.test.end;
+  begin = c.in_ok-begin.begin;
+  end = c.in_ok-first.first.end;
+  mark = c.requires;
+  test = c.in_ok-test.ensures.found;
+  then_at = c.in_ok-begin.ensures.found;
+  first = c.in_ok-first.ensures.found;
+  else_at = c.in_ok-next.ensures.found;
+  moves = moves_on (mark_moves c.requires) (moves_on c.in_ok-test.ensures.moves (moves_on (mark_moves c.in_ok-begin.ensures.found)
+      c.in_ok-first.ensures.moves));
+  span = c.span-covered.ensures;
+}
+
+-- ---- unconditional
+
+pub line::unconditional-returns-in_err-made-clause-refused : goal.line::unconditional-returns-in_err-made-clause-refused
+line::unconditional-returns-in_err-made-clause-refused t c = passed _ _ c.from_residual.ensures.1 c.in_err-made.ensures.refused
+    (λ r h. lines.lambda_refused c.args.tokens.now c.args.at (c.sees.ensures.yes c.if-sees.true) h)
+
+pub line::unconditional-returns-in_ok-made-clause-found : goal.line::unconditional-returns-in_ok-made-clause-found
+line::unconditional-returns-in_ok-made-clause-found t c = lines.lambda_read c.args.tokens.now c.args.at c.in_ok-made.made.end c.in_ok-made.ensures.found
+
+pub line::unconditional-returns-in_err-scrutinee-clause-refused : goal.line::unconditional-returns-in_err-scrutinee-clause-refused
+line::unconditional-returns-in_err-scrutinee-clause-refused t c = passed _ _ c.from_residual-in_err-scrutinee.ensures.1 c.in_err-scrutinee.ensures.refused
+    (λ r h. lines.scrutinee_refused (c.sees-else-sees.ensures.yes c.if-sees-2.true) h)
+
+pub line::unconditional-returns-in_err-begin-clause-refused : goal.line::unconditional-returns-in_err-begin-clause-refused
+line::unconditional-returns-in_err-begin-clause-refused t c = passed _ _ c.from_residual-in_err-begin.ensures.1 c.in_err-begin.ensures.refused
+    (λ r h. lines.of_missing (c.sees-else-sees.ensures.yes c.if-sees-2.true) c.in_ok-scrutinee.scrutinee.end c.in_ok-scrutinee.ensures.found h)
+
+pub line::unconditional-returns-in_err-first-clause-refused : goal.line::unconditional-returns-in_err-first-clause-refused
+line::unconditional-returns-in_err-first-clause-refused t c = passed _ _ c.from_residual-in_err-first.ensures.1 c.in_err-first.ensures.refused
+    (λ r h. lines.bar_refused (c.sees-else-sees.ensures.yes c.if-sees-2.true) c.in_ok-scrutinee.scrutinee.end c.in_ok-scrutinee.ensures.found
+    c.in_ok-begin.ensures.found (h _))
+
+pub line::unconditional-returns-in_err-list-clause-refused : goal.line::unconditional-returns-in_err-list-clause-refused
+line::unconditional-returns-in_err-list-clause-refused t c = passed _ _ c.from_residual-in_err-list.ensures.1 c.in_err-list.ensures.refused
+    (λ r h. lines.branches_refused (c.sees-else-sees.ensures.yes c.if-sees-2.true) c.in_ok-scrutinee.scrutinee.end c.in_ok-scrutinee.ensures.found
+    c.in_ok-begin.ensures.found c.in_ok-first.first (c.in_ok-first.ensures.found _) h)
+
+pub line::unconditional-returns-in_ok-made-2-clause-found : goal.line::unconditional-returns-in_ok-made-2-clause-found
+line::unconditional-returns-in_ok-made-2-clause-found t c = let e0 = c.in_ok-made-2.ensures.exp in let e1 = c.in_ok-made-2.ensures.takes.0 in let e2 =
+    c.in_ok-made-2.ensures.takes.1 in let e3 = c.in_ok-made-2.ensures.end in let s = c.span-covered.ensures in
+    let m : Moves c.args.tokens.now c.args.at c.in_ok-list.list.end = moves_on (stays_on (moves_on (mark_moves (c.sees-else-sees.ensures.yes
+    c.if-sees-2.true)) (moves_on c.in_ok-scrutinee.ensures.moves (mark_moves c.in_ok-begin.ensures.found))) c.in_ok-first.ensures.stays)
+    c.in_ok-list.ensures.moves in
+    rw (e0, e1, e2, e3, s) (lines.case_read (c.sees-else-sees.ensures.yes c.if-sees-2.true) c.in_ok-scrutinee.scrutinee.end c.in_ok-scrutinee.ensures.found
+    c.in_ok-begin.ensures.found c.in_ok-first.first (c.in_ok-first.ensures.found _) c.in_ok-list.list.end m c.in_ok-list.ensures.found)
+
+pub line::unconditional-returns-in_err-tree-clause-refused : goal.line::unconditional-returns-in_err-tree-clause-refused
+line::unconditional-returns-in_err-tree-clause-refused t c = passed _ _ c.from_residual-in_err-tree.ensures.1 c.in_err-tree.ensures.refused
+    (λ r h. lines.left_refused c.args.tokens.now c.args.at c.requires (c.sees.ensures.no c.if-sees.false) (c.sees-else-sees.ensures.no c.if-sees-2.false) h)
+
+pub line::unconditional-returns-in_ok-tree-clause-found : goal.line::unconditional-returns-in_ok-tree-clause-found
+line::unconditional-returns-in_ok-tree-clause-found t c = let e = c.closed.ensures.tree in let f = c.closed.ensures.end in rw (e, f)
+    (lines.left_read c.args.tokens.now c.args.at c.in_ok-tree.tree.end c.in_ok-tree.ensures.found)
 
 -- ---- lambda
 
@@ -235,18 +309,23 @@ level::cons-returns-clause-found t c = let e0 = c.in_ok-made.ensures.found.0 in 
 
 -- ---- negative
 
+pub level::negative-app-requires : goal.level::negative-app-requires
+level::negative-app-requires t c = let s : c.args.at ≤ c.past_signs-first.result = signs.signs_on c.past_signs-first.ensures.signs in
+    omega (arith, c.decreases, s)
+
 pub level::negative-returns-in_err-inner-clause-refused : goal.level::negative-returns-in_err-inner-clause-refused
-level::negative-returns-in_err-inner-clause-refused t c = passed _ _ c.from_residual-in_err-inner.ensures.1 c.in_err-inner.ensures.refused (λ r h. consing.minus_refused c.args.tokens.now c.args.at (c.sees.ensures.yes c.if-sees.true) h)
+level::negative-returns-in_err-inner-clause-refused t c = let p = c.past_signs-first.ensures in
+    passed _ _ c.from_residual.ensures.1 c.in_err-inner.ensures.refused (λ r h. signs.signs_refused c.args.depth p.signs (consing.plain_refused
+    c.args.tokens.now c.past_signs-first.result p.end h))
 
-pub level::negative-returns-in_ok-made-clause-found : goal.level::negative-returns-in_ok-made-clause-found
-level::negative-returns-in_ok-made-clause-found t c = let e0 = c.in_ok-made.ensures.found.0 in let e1 = c.in_ok-made.ensures.found.1 in let s = c.span-covered.ensures in
-    rw (e0, e1, s) (consing.minus_read c.args.tokens.now c.args.at c.in_ok-inner.inner.end (moves_on (mark_moves (c.sees.ensures.yes c.if-sees.true)) c.in_ok-inner.ensures.moves) (c.sees.ensures.yes c.if-sees.true) c.in_ok-inner.ensures.found)
+pub level::negative-returns-clause-moves : goal.level::negative-returns-clause-moves
+level::negative-returns-clause-moves t c = let e = c.in_ok-made.ensures.end in rw e
+    (signs.behind_signs c.past_signs-first.ensures.signs c.in_ok-inner.ensures.moves)
 
-pub level::negative-returns-in_err-made-2-clause-refused : goal.level::negative-returns-in_err-made-2-clause-refused
-level::negative-returns-in_err-made-2-clause-refused t c = passed _ _ c.from_residual-in_err-made-2.ensures.1 c.in_err-made-2.ensures.refused (λ r h. consing.plain_refused c.args.tokens.now c.args.at (c.sees.ensures.no c.if-sees.false) h)
-
-pub level::negative-returns-in_ok-made-2-clause-found : goal.level::negative-returns-in_ok-made-2-clause-found
-level::negative-returns-in_ok-made-2-clause-found t c = consing.plain_read c.args.tokens.now c.args.at c.in_ok-made-2.made.end c.in_ok-made-2.ensures.found
+pub level::negative-returns-clause-found : goal.level::negative-returns-clause-found
+level::negative-returns-clause-found t c = let e = c.in_ok-made.ensures.end in
+    rw e (c.in_ok-made.ensures.found c.args.depth (consing.plain_read c.args.tokens.now c.past_signs-first.result c.in_ok-inner.inner.end
+    c.in_ok-inner.ensures.found))
 
 -- ---- app
 

@@ -11,6 +11,7 @@ use Rattle.ur_parse_con.specs.Operators.{level_of}
 use Rattle.ur_parse_exp_parts.proofs.Levels.{Grouped}
 use Rattle.ur_parse_exp.proofs.Ranks.{rank}
 use Rattle.ur_parse_exp.proofs.Consing.{ConsChain}
+use Rattle.ur_parse_exp.proofs.ChoiceRules.{ChoiceChain}
 use Rattle.ur_parse_exp.proofs.Applying.{Applied}
 use Rattle.ur_parse_exp.proofs.Branches.{Branched}
 use Rattle.ur_parse_exp.proofs.Records.{Vals}
@@ -18,10 +19,19 @@ use Rattle.ur_parse_exp.proofs.Coding.{Reading}
 use Rattle.ur_parse_exp.proofs.+exp.Given as goal
 
 abbrev pub decreases-line::exp : goal.decreases-line::exp
-decreases-line::exp l = 30 * (length l.tokens.now - l.at) + 23
+decreases-line::exp l = 30 * (length l.tokens.now - l.at) + 25
 
 abbrev pub decreases-line::line : goal.decreases-line::line
-decreases-line::line l = 30 * (length l.tokens.now - l.at) + 22
+decreases-line::line l = 30 * (length l.tokens.now - l.at) + 24
+
+abbrev pub decreases-line::conditional : goal.decreases-line::conditional
+decreases-line::conditional l = 30 * (length l.tokens.now - l.at) + 23
+
+abbrev pub decreases-line::tested : goal.decreases-line::tested
+decreases-line::tested l = 30 * (length l.tokens.now - l.at)
+
+abbrev pub decreases-line::unconditional : goal.decreases-line::unconditional
+decreases-line::unconditional l = 30 * (length l.tokens.now - l.at) + 22
 
 abbrev pub decreases-line::lambda : goal.decreases-line::lambda
 decreases-line::lambda l = 30 * (length l.tokens.now - l.at)
@@ -87,7 +97,7 @@ abbrev pub decreases-code::code : goal.decreases-code::code
 decreases-code::code l = 30 * (length l.tokens.now - l.from) + 1
 
 abbrev pub decreases-code::quote : goal.decreases-code::quote
-decreases-code::quote l = 30 * (length l.tokens.now - l.at) + 24
+decreases-code::quote l = 30 * (length l.tokens.now - l.at) + 26
 
 abbrev pub decreases-fields::fields : goal.decreases-fields::fields
 decreases-fields::fields l = 30 * (length l.tokens.now - l.at) + 1
@@ -163,6 +173,15 @@ invariant-level::app-arguments l = record {
 
 abbrev pub decreases-level::app-arguments : goal.decreases-level::app-arguments
 decreases-level::app-arguments l = length l.tokens - l.function.end
+
+abbrev pub invariant-line::conditional-choices : goal.invariant-line::conditional-choices
+invariant-line::conditional-choices l = record {
+  start : l.at ≤ l.begin;
+  chain : ChoiceChain l.depth l.tokens l.at l.begin l.before;
+}
+
+abbrev pub decreases-line::conditional-choices : goal.decreases-line::conditional-choices
+decreases-line::conditional-choices l = length l.tokens - l.begin
 
 abbrev pub invariant-line::branches-bars : goal.invariant-line::branches-bars
 invariant-line::branches-bars l = record {

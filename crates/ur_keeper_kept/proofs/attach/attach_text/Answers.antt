@@ -1,23 +1,54 @@
-use Rattle.std.proofs.Common.{◌≡◌, ◌≢◌, ap, sym, ◌∙◌, rules}
+use Rattle.std.proofs.Common.{◌≡◌, ◌≢◌, true, false, refl, rules}
+use Rattle.ur_values.specs.declared.schema.Schema.{Schema}
+use Rattle.ur_values.specs.Named.{IsNamed}
 use Rattle.ur_values.specs.SchemaText.{schema_text}
-use Rattle.ur_keeper_kept.proofs.Attaching.{taken-told}
-use Rattle.ur_keeper_kept.proofs.Ends.{other-text}
-use Rattle.ur_keeper_kept.proofs.Faulty.{no-schema}
+use Rattle.ur_values.specs.Extends.{extends}
+use Rattle.ur_keeper.specs.Keeper.{IsReadAs}
+use Rattle.ur_keeper_bodies.specs.Stored.{parted}
+use Rattle.ur_keeper_kept.proofs.Texts.{text-kept, reads-ready, reads-differs, text-faulty, unread-faulty}
+use Rattle.ur_keeper_kept.proofs.Finding.{finds-at}
 use Rattle.ur_keeper_kept.proofs.attach.attach_text.Goals as goal
 
-pub returns-in-None-clause-found : goal.returns-in-None-clause-found
-returns-in-None-clause-found g c = λ other.
-    let apart : c.args.kept.now ≢ c.args.text.now = search rules in
-    no-schema c.args.schema.now _ c.args.kept.now c.in_ok-other.other (λ e. apart (e ∙ sym c.requires.text)) c.in-None.is (λ x n e. c.in_ok-other.ensures.named x n (c.as_slice-3.ensures ∙ e)) c.requires.kept
+pub grow-requires-clause-text : goal.grow-requires-clause-text
+grow-requires-clause-text g c =
+    let layout = c.parted-layout.result.0 in
+    let text = c.parted-layout.result.1.now in
+    let p : (layout, text) ≡ parted c.args.stored.now = search rules in
+    let read : IsReadAs c.args.schema.now text c.in-Some.kept = search rules in
+    text-kept c.in-Some.kept layout c.args.stored.now text _ p read.spells c.requires.stored
 
-pub returns-then-eq-clause-answer : goal.returns-then-eq-clause-answer
-returns-then-eq-clause-answer g c =
-    let same : c.args.kept.now ≡ schema_text c.args.schema.now = search rules in
-    taken-told c.args.schema.now _ c.args.kept.now same c.requires.kept c.in_ok-check_store.ensures.sound
+pub returns-clause-answer : goal.returns-clause-answer
+returns-clause-answer g c =
+    let layout = c.parted-layout.result.0 in
+    let text = c.parted-layout.result.1.now in
+    let p : (layout, text) ≡ parted c.args.stored.now = search rules in
+    let read : IsReadAs c.args.schema.now text c.in-Some.kept = search rules in
+    let e : extends c.args.schema.now c.in-Some.kept ≡ true = search rules in
+    reads-ready c.args.schema.now c.in-Some.kept layout c.args.stored.now text _ _ p read e c.in_ok-grow.ensures.grows
 
-pub returns-in-Some-clause-answer : goal.returns-in-Some-clause-answer
-returns-in-Some-clause-answer g c =
-    let s = c.args.schema.now in
-    let apart : c.args.kept.now ≢ schema_text s = search rules in
-    let is : c.args.kept.now ≡ schema_text c.in-Some.other = search rules in
-    ((λ e. apart (is ∙ ap schema_text e)), other-text s c.in-Some.other _ c.args.kept.now is apart c.requires.kept)
+pub returns-then-not-extends-clause-answer : goal.returns-then-not-extends-clause-answer
+returns-then-not-extends-clause-answer g c =
+    let layout = c.parted-layout.result.0 in
+    let text = c.parted-layout.result.1.now in
+    let p : (layout, text) ≡ parted c.args.stored.now = search rules in
+    let read : IsReadAs c.args.schema.now text c.in-Some.kept = search rules in
+    let e : extends c.args.schema.now c.in-Some.kept ≡ false = search rules in
+    reads-differs c.args.schema.now c.in-Some.kept layout c.args.stored.now text _ _ p read e refl
+
+pub returns-in_default-clause-found : goal.returns-in_default-clause-found
+returns-in_default-clause-found g c = λ other.
+    let layout = c.parted-layout.result.0 in
+    let text = c.parted-layout.result.1.now in
+    let p : (layout, text) ≡ parted c.args.stored.now = search rules in
+    let unread : (text ≢ schema_text c.args.schema.now) × ((x : Schema) → IsNamed x → text ≢ schema_text x) = search rules in
+    unread-faulty c.args.schema.now layout c.args.stored.now text _ p unread c.requires.stored
+
+pub returns-in_err-grow-clause-found : goal.returns-in_err-grow-clause-found
+returns-in_err-grow-clause-found g c =
+    let layout = c.parted-layout.result.0 in
+    let text = c.parted-layout.result.1.now in
+    let p : (layout, text) ≡ parted c.args.stored.now = search rules in
+    let read : IsReadAs c.args.schema.now text c.in-Some.kept = search rules in
+    let e : extends c.args.schema.now c.in-Some.kept ≡ true = search rules in
+    finds-at c.from_residual-in_err-grow.result _ _ _ _ _ c.from_residual-in_err-grow.ensures.1
+    (λ other. text-faulty c.args.schema.now c.in-Some.kept layout c.args.stored.now text _ p read e c.requires.stored (c.in_err-grow.ensures.found other))

@@ -1,17 +1,17 @@
-use Rattle.std.proofs.Common.{Err, ap₂, ◌∙◌, ap}
+use Rattle.std.proofs.Common.{sym, ap, ap₂, ◌∙◌}
 use Rattle.ur_terms.specs.Ops as ops
-use Rattle.ur_machine.proofs.Giving.{gives_as, more_than_one, more_than_most, not_nil}
+use Rattle.ur_machine.proofs.Giving.{gives_as}
 use Rattle.ur_machine.proofs.queries.answered.Goals as goal
 
-pub returns-in-None : goal.returns-in-None
-returns-in-None c = gives_as (Err c.failed.result) (λ s. ap₂ (λ h rows. ops.answered h rows s) c.in-One.is c.in-None.ensures.0) c.failed.ensures
+pub returns-in-All : goal.returns-in-All
+returns-in-All c = gives_as c.all.result (λ s. ap (λ how. ops.answered how c.args.rows s) c.in-All.is) c.all.ensures
 
 pub returns-in-One : goal.returns-in-One
 returns-in-One c =
-    gives_as (Err c.failed-else-is_empty.result)
-    (λ s. ap (λ h. ops.answered h c.args.rows s) c.in-One.is ∙ more_than_one c.args.rows c.pop.new.self c.in-Some.row c.in-Some.ensures (not_nil c.pop.new.self c.is_empty.result c.if-is_empty.false c.is_empty.ensures) s) c.failed-else-is_empty.ensures
+    gives_as c.only.result (λ s. ap₂ (λ how rows. ops.answered how rows s) c.in-One.is (sym (c.as_slice.ensures ∙ c.get.ensures))) c.only.ensures
 
-pub returns : goal.returns
-returns c =
-    gives_as (Err c.failed-else-is_empty-2.result)
-    (λ s. ap (λ h. ops.answered h c.args.rows s) c.in-OneOrNone.is ∙ more_than_most c.args.rows c.pop-in-OneOrNone.new.self c.in-Some-pop.row c.in-Some-pop.ensures (not_nil c.pop-in-OneOrNone.new.self c.is_empty-in-Some-pop.result c.if-is_empty-2.false c.is_empty-in-Some-pop.ensures) s) c.failed-else-is_empty-2.ensures
+pub returns-in-OneOrNone : goal.returns-in-OneOrNone
+returns-in-OneOrNone c =
+    gives_as c.at_most_one.result
+    (λ s. ap₂ (λ how rows. ops.answered how rows s) c.in-OneOrNone.is (sym (c.as_slice-in-OneOrNone.ensures ∙ c.get-in-OneOrNone.ensures)))
+    c.at_most_one.ensures

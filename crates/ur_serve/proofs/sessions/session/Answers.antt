@@ -1,4 +1,5 @@
-use Rattle.std.proofs.Common.{◌≡◌, suc, ◌+◌, ◌-◌, ◌*◌, ◌==◌, [], ◌∷◌, ◌++◌, length, All, Any, None, Some, inl, inr, refl, sym, ap, subst, ◌∙◌, arith, length-append}
+use Rattle.std.proofs.Common.{◌≡◌, suc, ◌+◌, ◌-◌, ◌*◌, ◌==◌, [], ◌∷◌, ◌++◌, length, All, Any, None, Some, inl, inr, refl, sym, ap, subst, ◌∙◌, arith}
+use Rattle.std.proofs.Common.{length-append}
 use Rattle.std.proofs.lemmas.Bool.Decides.{nat_tests}
 use Rattle.std.proofs.lemmas.List.Elements.{All-nil, All-push}
 use Rattle.ur_base.specs.Rooms.{RoomOf}
@@ -10,7 +11,9 @@ use Rattle.ur_http.specs.Items.{greatest_request}
 use Rattle.ur_serve.specs.declared.arrivals.Arrival.TheVariants as arrival
 use Rattle.ur_serve.specs.Faults.{count_at_end}
 use Rattle.ur_serve.specs.Saying.{mark_of, closes_of, bytes_of, Says, IsOver}
-use Rattle.ur_serve.proofs.Rounds.{InSession, HasSession, in_session-none, in_session-more, has_session-over, has_session-ended, wired_none, over_not_ended, goes_on_done, not_full, keeper_last, rose_later, last_is, wired_more, wired_ended, answerable_on, still_counted}
+use Rattle.ur_serve.proofs.Rounds.{InSession, HasSession, in_session-none, in_session-more, has_session-over, has_session-ended, wired_none}
+use Rattle.ur_serve.proofs.Rounds.{over_not_ended, goes_on_done, not_full, keeper_last, rose_later, last_is, wired_more, wired_ended, answerable_on}
+use Rattle.ur_serve.proofs.Rounds.{still_counted}
 use Rattle.ur_serve.proofs.Taking.{taken_none, taken_ended, taken_round, all_before, last_said}
 use Rattle.ur_serve.proofs.sessions.session.Goals as goal
 

@@ -1,7 +1,6 @@
-use Rattle.std.proofs.Common.{◌≡◌, ◌++◌, take}
-use Rattle.std.specs.List.{flat_map}
+use Rattle.ur_tags.specs.Runs.{InRuns}
 use Rattle.ur_tags.specs.Show.{escape_quoted}
 use Rattle.ur_tags.proofs.marks.push_quoted.Given as goal
 
-abbrev pub invariant-loop-byte : goal.invariant-loop-byte
-invariant-loop-byte l = l.out ≡ l.initial.out ++ flat_map escape_quoted (take l.byte-index l.text)
+abbrev pub invariant-loop-at : goal.invariant-loop-at
+invariant-loop-at l = InRuns escape_quoted l.initial.out l.text l.from l.at l.out

@@ -1,7 +1,6 @@
-use Rattle.std.proofs.Common.{◌≡◌, ◌++◌, take}
-use Rattle.std.specs.List.{flat_map}
+use Rattle.ur_tags.specs.Runs.{InRuns}
 use Rattle.ur_tags.specs.Show.{escape}
 use Rattle.ur_tags.proofs.marks.push_text.Given as goal
 
-abbrev pub invariant-loop-byte : goal.invariant-loop-byte
-invariant-loop-byte l = l.out ≡ l.initial.out ++ flat_map escape (take l.byte-index l.text)
+abbrev pub invariant-loop-at : goal.invariant-loop-at
+invariant-loop-at l = InRuns escape l.initial.out l.text l.from l.at l.out

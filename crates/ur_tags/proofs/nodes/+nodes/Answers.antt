@@ -13,13 +13,12 @@ push_node-returns-in-Element t c =
     ap (show_node handlers) c.in-Element.is ∙ show_node-Element handlers c.in-Element.tag c.in-Element.inner in
     rw shown c.push_element.ensures
 
-pub push_node-returns-in_ok-path-in-Link : goal.push_node-returns-in_ok-path-in-Link
-push_node-returns-in_ok-path-in-Link t c =
+pub push_node-returns-in-Link : goal.push_node-returns-in-Link
+push_node-returns-in-Link t c =
     let handlers = c.args.handlers.now in
     let shown : show_node handlers c.args.node.now ≡ link (path handlers c.in-Link.call) (show_nodes handlers c.in-Link.inner) =
     ap (show_node handlers) c.in-Link.is ∙ show_node-Link handlers c.in-Link.call c.in-Link.inner in
-    let named : c.as_slice-in-Link.result.now ≡ path handlers c.in-Link.call = c.as_slice-in-Link.ensures ∙ c.in_ok-path-in-Link.ensures in
-    rw (shown, ← named) c.push_link.ensures
+    rw shown c.push_link.ensures
 
 pub push_node-returns-in-Submit : goal.push_node-returns-in-Submit
 push_node-returns-in-Submit t c =
@@ -53,5 +52,5 @@ pub push_link-returns : goal.push_link-returns
 push_link-returns t c =
     let inner = show_nodes c.args.handlers.now c.args.inner.now in
     let filled : c.push_nodes.new.out ≡ c.push.new.self ++ inner = c.in_ok-push_nodes.ensures ∙ ap (λ ns. c.push.new.self ++ show_nodes c.args.handlers.now ns) c.as_slice.ensures in
-    around_written c.args.out.now _ _ _ _ _ (codes "a") (attribute (codes "href") c.args.path.now) inner c.in_ok-push_open.ensures c.in_ok-push_attribute.ensures
+    around_written c.args.out.now _ _ _ _ _ (codes "a") (attribute (codes "href") (path c.args.handlers.now c.args.call.now)) inner c.in_ok-push_open.ensures c.in_ok-push_path_attribute.ensures
     c.in_ok-push.ensures.ok filled c.in_ok-push_close.ensures

@@ -1,6 +1,6 @@
-use Rattle.std.proofs.Common.{◌≡◌, ◌++◌, take}
-use Rattle.ur_tags.specs.Segments.{encode}
+use Rattle.ur_tags.specs.Runs.{InRuns}
+use Rattle.ur_tags.specs.Segments.{encode_byte}
 use Rattle.ur_tags.proofs.segments.push_encoded.Given as goal
 
-abbrev pub invariant-loop-byte : goal.invariant-loop-byte
-invariant-loop-byte l = l.out ≡ l.initial.out ++ encode (take l.byte-index l.bytes)
+abbrev pub invariant-loop-at : goal.invariant-loop-at
+invariant-loop-at l = InRuns encode_byte l.initial.out l.bytes l.from l.at l.out

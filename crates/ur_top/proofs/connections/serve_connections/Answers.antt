@@ -8,7 +8,9 @@ use Rattle.ur_serve.specs.Serving.{IsReadyWithin}
 use Rattle.ur_serve.proofs.ServeSessions.{ready_at_start}
 use Rattle.ur_headline.specs.Counting.{keeper_fault, keeper_faults, wire_faults, marks_of}
 use Rattle.ur_headline.proofs.Counting.{sum_last, rose_none}
-use Rattle.ur_top.proofs.Goings.{SoFar, Comes, begun, goes_on, unmoved, stays, has_served_as, none_came, one_came, serves_on, serves_all, serves_out, counted_last, ends_as, rose_last, marks_on, marks_less, short_last, none_short, no_requests, few_requests, ready_fewer, not_none, over_wants, not_done}
+use Rattle.ur_top.proofs.Goings.{SoFar, Comes, begun, goes_on, unmoved, stays, has_served_as, none_came, one_came, serves_on, serves_all, serves_out}
+use Rattle.ur_top.proofs.Goings.{counted_last, ends_as, rose_last, marks_on, marks_less, short_last, none_short, no_requests, few_requests}
+use Rattle.ur_top.proofs.Goings.{ready_fewer, not_none, over_wants, not_done}
 use Rattle.ur_top.specs.Serving.{HasNext, HasFewRequests}
 use Rattle.ur_top.specs.declared.reporting.RunEnd.TheVariants as end
 use Rattle.ur_top.specs.declared.serving.EndedServing.{EndedServing}

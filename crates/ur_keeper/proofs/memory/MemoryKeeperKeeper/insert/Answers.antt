@@ -4,10 +4,12 @@ use Rattle.ur_keeper.proofs.Calls.{table-there, rises-there, keeps-inserted}
 use Rattle.ur_keeper.proofs.memory.MemoryKeeperKeeper.insert.Goals as goal
 
 pub insert-requires-clause-table : goal.insert-requires-clause-table
-insert-requires-clause-table c = table-there _ _ (ap (λ (m : Memory). m.kept) (c.self.view_is ∙ c.in_ok-count.ensures.ok)) c.self.inside.held.current c.args.table c.self.invariant.current c.requires.table
+insert-requires-clause-table c =
+    table-there _ _ (ap (λ (m : Memory). m.kept) (c.self.view_is ∙ c.in_ok-count.ensures.ok)) c.self.inside.held.current c.args.table c.self.invariant.current c.requires.table
 
 pub insert-requires-clause-rising : goal.insert-requires-clause-rising
-insert-requires-clause-rising c = rises-there _ _ (ap (λ (m : Memory). m.kept) (c.self.view_is ∙ c.in_ok-count.ensures.ok)) c.self.inside.held.current c.args.table c.self.invariant.current c.requires.table
+insert-requires-clause-rising c =
+    rises-there _ _ (ap (λ (m : Memory). m.kept) (c.self.view_is ∙ c.in_ok-count.ensures.ok)) c.self.inside.held.current c.args.table c.self.invariant.current c.requires.table
 
 pub invariant_of-self : goal.invariant_of-self
 invariant_of-self c =

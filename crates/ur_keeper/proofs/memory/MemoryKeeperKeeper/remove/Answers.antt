@@ -4,10 +4,12 @@ use Rattle.ur_keeper.proofs.Calls.{table-there, rises-there, keeps-removed}
 use Rattle.ur_keeper.proofs.memory.MemoryKeeperKeeper.remove.Goals as goal
 
 pub remove-requires-clause-table : goal.remove-requires-clause-table
-remove-requires-clause-table c = table-there _ _ (ap (λ (m : Memory). m.kept) (c.self.view_is ∙ c.in_ok-count.ensures.ok)) c.self.inside.held.current c.args.table c.self.invariant.current c.requires.table
+remove-requires-clause-table c =
+    table-there _ _ (ap (λ (m : Memory). m.kept) (c.self.view_is ∙ c.in_ok-count.ensures.ok)) c.self.inside.held.current c.args.table c.self.invariant.current c.requires.table
 
 pub remove-requires-clause-rising : goal.remove-requires-clause-rising
-remove-requires-clause-rising c = rises-there _ _ (ap (λ (m : Memory). m.kept) (c.self.view_is ∙ c.in_ok-count.ensures.ok)) c.self.inside.held.current c.args.table c.self.invariant.current c.requires.table
+remove-requires-clause-rising c =
+    rises-there _ _ (ap (λ (m : Memory). m.kept) (c.self.view_is ∙ c.in_ok-count.ensures.ok)) c.self.inside.held.current c.args.table c.self.invariant.current c.requires.table
 
 pub invariant_of-self : goal.invariant_of-self
 invariant_of-self c =

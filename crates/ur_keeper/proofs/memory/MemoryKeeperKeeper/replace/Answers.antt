@@ -4,10 +4,12 @@ use Rattle.ur_keeper.proofs.Calls.{table-there, rises-there, keeps-replaced}
 use Rattle.ur_keeper.proofs.memory.MemoryKeeperKeeper.replace.Goals as goal
 
 pub replace-requires-clause-table : goal.replace-requires-clause-table
-replace-requires-clause-table c = table-there _ _ (ap (λ (m : Memory). m.kept) (c.self.view_is ∙ c.in_ok-count.ensures.ok)) c.self.inside.held.current c.args.table c.self.invariant.current c.requires.table
+replace-requires-clause-table c =
+    table-there _ _ (ap (λ (m : Memory). m.kept) (c.self.view_is ∙ c.in_ok-count.ensures.ok)) c.self.inside.held.current c.args.table c.self.invariant.current c.requires.table
 
 pub replace-requires-clause-rising : goal.replace-requires-clause-rising
-replace-requires-clause-rising c = rises-there _ _ (ap (λ (m : Memory). m.kept) (c.self.view_is ∙ c.in_ok-count.ensures.ok)) c.self.inside.held.current c.args.table c.self.invariant.current c.requires.table
+replace-requires-clause-rising c =
+    rises-there _ _ (ap (λ (m : Memory). m.kept) (c.self.view_is ∙ c.in_ok-count.ensures.ok)) c.self.inside.held.current c.args.table c.self.invariant.current c.requires.table
 
 pub invariant_of-self : goal.invariant_of-self
 invariant_of-self c =

@@ -6,7 +6,8 @@ use Rattle.ur_keeper.proofs.Calls.{table-there, rows-there}
 use Rattle.ur_keeper.proofs.memory.MemoryKeeperKeeper.scan.Goals as goal
 
 pub scan-requires : goal.scan-requires
-scan-requires c = table-there _ _ (ap (λ (m : Memory). m.kept) (c.self-2.view_is ∙ c.in_ok-count.ensures.ok) ∙ ap (λ (m : Memory). m.kept) c.self.view_is) c.self-2.inside.held.current c.args.table c.self-2.invariant.current c.requires.table
+scan-requires c =
+    table-there _ _ (ap (λ (m : Memory). m.kept) (c.self-2.view_is ∙ c.in_ok-count.ensures.ok) ∙ ap (λ (m : Memory). m.kept) c.self.view_is) c.self-2.inside.held.current c.args.table c.self-2.invariant.current c.requires.table
 
 pub returns-in-Ok-clause-every_form : goal.returns-in-Ok-clause-every_form
 returns-in-Ok-clause-every_form c =

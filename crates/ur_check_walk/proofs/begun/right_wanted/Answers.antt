@@ -1,0 +1,10 @@
+use Rattle.std.proofs.Common.{◌≡◌, ap, ◌∙◌}
+use Rattle.ur_tree.specs.Typing.{operation}
+use Rattle.ur_typed.specs.Rules.{operator_of, right_mode}
+use Rattle.ur_check_rules.specs.Views.{operation_in}
+use Rattle.ur_check_walk.proofs.begun.right_wanted.Goals as goal
+
+pub returns : goal.returns
+returns c =
+    let is : operation_in c.operation_of-asked.result ≡ operation (operator_of c.args.op) = c.operation_of-asked.ensures ∙ ap operation c.operator_of.ensures in
+    c.in_ok-inside.ensures ∙ c.right_mode.ensures c.in_ok-list.ensures ∙ ap (λ z. right_mode z c.args.left.now) is

@@ -1,0 +1,9 @@
+pub mod Matching
+pub mod Calls
+pub mod Makes
+pub mod InPlace
+pub mod Writing
+pub mod Forms
+pub mod Frames
+pub mod Placed
+pub mod Passing

@@ -1,0 +1,14 @@
+use Rattle.std.proofs.Common.{◌≡◌, ◌+◌, ◌≤◌}
+use Rattle.ur_base.specs.Told.{WhereTold}
+use Rattle.ur_keeper_bodies.specs.Bodies.{IsOpened}
+use Rattle.ur_keeper_kept.proofs.GrowingStores.{PutsSoFar}
+use Rattle.ur_keeper_kept.proofs.growing.rewriting.Given as goal
+
+abbrev pub invariant-loop-place : goal.invariant-loop-place
+invariant-loop-place g l = record {
+  same : IsOpened (g.B.Bodies.bodies l.initial.stock.bodies) (g.B.Bodies.bodies l.stock.bodies) (g.B.Bodies.opened l.stock.bodies);
+  first : g.B.Bodies.tells_at_first l.stock.bodies ≡ g.B.Bodies.tells_at_first l.initial.stock.bodies;
+  later : (g.B.Bodies.faults l.initial.stock.bodies + l.initial.stock.found) ≤ (g.B.Bodies.faults l.stock.bodies + l.stock.found);
+  found : l.stock.found ≡ l.initial.stock.found;
+  told : WhereTold (g.B.Bodies.bodies l.initial.stock.bodies) (λ m. PutsSoFar l.schema l.kept m l.place l.changes);
+}
